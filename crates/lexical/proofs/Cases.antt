@@ -1,0 +1,48 @@
+-- Laws of tests: cases on one, its parts, and what a byte's class says of the byte.
+use mathlib.Core.Path.{_≡_, refl}
+use mathlib.Core.Bool.{Bool, true, false, _&&_, _||_}
+use Prim.Native.Nat.{ℕ}
+use native.Mathlib.Omega.{arith}
+use lib.Dec.{T, eqb}
+use borrow.Author.Tests.{eqb-true, eq-eqb, ne-eqb, le-leb, lt-leb, lt-ltb, le-ltb}
+
+-- a test of numbers from the fact
+pub ruleset tests = (eq-eqb, ne-eqb, le-leb, lt-leb, lt-ltb, le-ltb)
+
+-- both values of a test, each with its equation
+pub split : {A : Type 0} (b : Bool) → (b ≡ true → A) → (b ≡ false → A) → A
+split true f g = f refl
+split false f g = g refl
+
+-- a test has one value
+pub clash : {A : Type 0} (b : Bool) → b ≡ true → b ≡ false → A
+clash b h e = let z : _≡_ {A = ℕ} 0 1 = cc in absurd (omega arith)
+
+pub or-left : (a b : Bool) → (a || b) ≡ false → a ≡ false
+or-left true b e = e
+or-left false b e = refl
+
+pub or-right : (a b : Bool) → (a || b) ≡ false → b ≡ false
+or-right true b e = cc
+or-right false b e = e
+
+pub and-left : (a b : Bool) → (a && b) ≡ true → a ≡ true
+and-left true b e = refl
+and-left false b e = e
+
+pub and-right : (a b : Bool) → (a && b) ≡ true → b ≡ true
+and-right true b e = e
+and-right false b e = cc
+
+-- a test that computes to true
+pub holds : (b : Bool) → b ≡ true → T b
+holds true e = tt
+holds false e = let z : _≡_ {A = ℕ} 0 1 = cc in absurd (omega arith)
+
+pub passes : (b : Bool) → T b → b ≡ true
+passes true t = refl
+passes false t = absurd t
+
+-- a byte of a class is none that the class lacks; at a numeral and a class that is written out the first fact is `refl`
+pub excluded : (f : ℕ → Bool) (c x : ℕ) → f c ≡ false → f x ≡ true → eqb x c ≡ false
+excluded f c x lacks has = split (eqb x c) (λ h. let z : f c ≡ true = rw (eqb-true x c h) at has in cc) (λ h. h)

@@ -1,0 +1,55 @@
+-- Laws of line endings at an index of a text: what they are by the byte there and the one after it.
+use mathlib.Core.Path.{_≡_, refl, ap}
+use mathlib.Core.Bool.{Bool, true, false, _&&_, _||_, not}
+use mathlib.Core.List.{List, [], _∷_}
+use Prim.Native.Nat.{ℕ, zero, suc, _+_, _-_, _<_, _≤_}
+use native.Mathlib.Numerals.{sub-one}
+use lib.Dec.{eqb}
+use lib.ListN.{length, getD, drop}
+use lib.Seq.{drop-drop}
+use Rattle.lexical.specs.Text.{byte, pick, first, run}
+use Rattle.lexical.specs.Byte.{isSpaceOrTab}
+use Rattle.lexical.specs.Line.{lineEnding, endsLine, lineEndings, isLineStart, atLineEnd, isBlank}
+use Rattle.lexical.proofs.Suffix.{suffix-in, suffix-out}
+
+module _ (s : List ℕ) (i : ℕ) where
+  pub ending-in : i < length s
+      → lineEnding (drop i s)
+      ≡ pick (eqb (getD s i 0) (byte "\n")) 1
+      (pick (eqb (getD s i 0) (byte "\r")) (pick (eqb (first (drop (i + 1) s)) (byte "\n")) 2 1) 0)
+  unfolding lineEnding
+  ending-in h = rw (suffix-in s i h)
+
+  pub ending-out : length s ≤ i → lineEnding (drop i s) ≡ 0
+  unfolding lineEnding
+  ending-out h = rw (suffix-out s i h)
+
+  pub ends-in : i < length s
+      → endsLine (drop i s)
+      ≡ (eqb (getD s i 0) (byte "\n") || (eqb (getD s i 0) (byte "\r") && not (eqb (first (drop (i + 1) s)) (byte "\n"))))
+  unfolding endsLine
+  ends-in h = rw (suffix-in s i h)
+
+  pub ends-out : length s ≤ i → endsLine (drop i s) ≡ false
+  unfolding endsLine
+  ends-out h = rw (suffix-out s i h)
+
+  -- a byte is counted where it ends a line
+  pub count-in : (b : Bool) → i < length s → endsLine (drop i s) ≡ b → lineEndings (drop i s) ≡ pick b (suc (lineEndings (drop (i + 1) s))) (lineEndings (drop (i + 1) s))
+  unfolding lineEndings
+  count-in b h e = let t = rw (suffix-in s i h) at e in rw (suffix-in s i h, t)
+
+  pub count-out : length s ≤ i → lineEndings (drop i s) ≡ 0
+  unfolding lineEndings
+  count-out h = rw (suffix-out s i h)
+
+-- an index but 0 is a line's first byte where a line ends just before it
+pub start-after : (s : List ℕ) (i : ℕ) → (i ≡ 0 → ⊥) → isLineStart s i ≡ endsLine (drop (i - 1) s)
+unfolding isLineStart
+start-after s zero h = absurd (h refl)
+start-after s (suc i) h = rw (sub-one)
+
+-- a line is blank where it ends after its spaces and tabs
+pub blank-at : (s : List ℕ) (i : ℕ) → isBlank (drop i s) ≡ atLineEnd (drop (i + run isSpaceOrTab (drop i s)) s)
+unfolding isBlank
+blank-at s i = ap atLineEnd (drop-drop (run isSpaceOrTab (drop i s)) i s)

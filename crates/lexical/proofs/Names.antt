@@ -1,0 +1,148 @@
+-- The two tables of names. One computed test says of both that their bytes are lower case letters or digits, their names are in order, their offsets rise
+-- and cut just the names; the laws turn it into the rule at each entry. Then the lookup: one turn compares a name with the part between two offsets.
+use mathlib.Core.Path.{_≡_, refl, sym, _∙_, ap}
+use mathlib.Core.Bool.{Bool, true, false, _&&_, _||_}
+use mathlib.Core.List.{List, [], _∷_}
+use Prim.Native.Nat.{ℕ, suc, _+_, _-_, _<_, _≤_}
+use native.Mathlib.Omega.{arith}
+use lib.Dec.{eqb, leb, ltb}
+use borrow.Author.Tests.{ltb-true, ltb-false, leb-true}
+use lib.ListN.{length, getD, take, drop}
+use Rattle.lexical.specs.Byte.{within, isDigit}
+use Rattle.lexical.specs.Text.{byte}
+use Rattle.lexical.specs.Name.{blockNames, rawNames, sameBytes, isMember, nameBytes, nameOffsets, cut, all, chain, rising}
+use Rattle.lexical.proofs.Cases.{and-left, and-right, split}
+use Rattle.lexical.proofs.Suffix.{suffix-in, suffix-out}
+use Rattle.lexical.proofs.Same.{same-equal}
+use Rattle.lexical.proofs.Table.{all-at, chain-at}
+
+-- a lower case letter or a digit
+abbrev pub isLowerByte : ℕ → Bool
+isLowerByte b = within (byte "a") (byte "z") b || isDigit b
+
+-- strictly before, in the order of byte strings
+abbrev pub before : List ℕ → List ℕ → Bool
+before xs [] = false
+before [] (y ∷ ys) = true
+before (x ∷ xs) (y ∷ ys) = ltb x y || (eqb x y && before xs ys)
+
+-- the names are the same, one by one
+unfoldable pub sameNames : List (List ℕ) → List (List ℕ) → Bool
+sameNames [] [] = true
+sameNames [] (y ∷ ys) = false
+sameNames (x ∷ xs) [] = false
+sameNames (x ∷ xs) (y ∷ ys) = sameBytes x y && sameNames xs ys
+
+same-names : (xs ys : List (List ℕ)) → sameNames xs ys ≡ true → xs ≡ ys
+unfolding sameNames
+same-names [] [] e = refl
+same-names [] (y ∷ ys) e = cc
+same-names (x ∷ xs) [] e = cc
+same-names (x ∷ xs) (y ∷ ys) e =
+    let p : x ≡ y = same-equal x y (and-left (sameBytes x y) (sameNames xs ys) e) in
+    let q : xs ≡ ys = same-names xs ys (and-right (sameBytes x y) (sameNames xs ys) e) in
+    cc
+
+-- the offsets of a list of names cut just those names
+abbrev pub cuts : List (List ℕ) → Bool
+cuts names = sameNames (cut (nameBytes names) (nameOffsets 0 names)) names
+
+-- the whole test of a table
+unfoldable pub sound : List (List ℕ) → Bool
+sound names =
+    all isLowerByte (nameBytes names)
+    && (chain before names && (rising (length (nameBytes names)) (nameOffsets 0 names) && cuts names))
+
+pub tables-sound : (sound blockNames && sound rawNames) ≡ true
+unfolding sound sameNames sameBytes all chain before rising cut nameBytes nameOffsets blockNames rawNames
+tables-sound = refl
+
+pub block-sound : sound blockNames ≡ true
+block-sound = and-left (sound blockNames) (sound rawNames) tables-sound
+
+pub raw-sound : sound rawNames ≡ true
+raw-sound = and-right (sound blockNames) (sound rawNames) tables-sound
+
+-- 01: 62 names, 294 bytes, 63 offsets
+pub block-count : length blockNames ≡ 62
+unfolding blockNames
+block-count = refl
+
+pub block-length : length (nameBytes blockNames) ≡ 294
+unfolding blockNames nameBytes
+block-length = refl
+
+pub block-last : getD (nameOffsets 0 blockNames) 62 0 ≡ 294
+unfolding blockNames nameOffsets
+block-last = refl
+
+module _ (names : List (List ℕ)) (e : sound names ≡ true) where
+  abbrev lows : Bool
+  lows = all isLowerByte (nameBytes names)
+
+  abbrev order : Bool
+  order = chain before names
+
+  abbrev rise : Bool
+  rise = rising (length (nameBytes names)) (nameOffsets 0 names)
+
+  rest : (order && (rise && cuts names)) ≡ true
+  unfolding sound
+  rest = and-right lows (order && (rise && cuts names)) e
+
+  pub lower-at : (k : ℕ) → k < length (nameBytes names) → isLowerByte (getD (nameBytes names) k 0) ≡ true
+  unfolding sound
+  lower-at k h = all-at 0 isLowerByte (nameBytes names) (and-left lows (order && (rise && cuts names)) e) k h
+
+  pub order-at : (k : ℕ) → k + 1 < length names → before (getD names k []) (getD names (k + 1) []) ≡ true
+  order-at k h = chain-at [] before names (and-left order (rise && cuts names) rest) k h
+
+  pub offsets-rise : rise ≡ true
+  offsets-rise = and-left rise (cuts names) (and-right order (rise && cuts names) rest)
+
+  pub cut-is : cut (nameBytes names) (nameOffsets 0 names) ≡ names
+  cut-is = same-names (cut (nameBytes names) (nameOffsets 0 names)) names (and-right rise (cuts names) (and-right order (rise && cuts names) rest))
+
+  -- a table and its offsets as the code has them
+  module _ (table offsets : List ℕ) (t : table ≡ nameBytes names) (o : offsets ≡ nameOffsets 0 names) where
+    pub table-rises : rising (length table) offsets ≡ true
+    table-rises = rw (t, o) offsets-rise
+
+    pub member-of : (n : List ℕ) → isMember n (cut table offsets) ≡ isMember n names
+    member-of n = rw (t, o, cut-is)
+
+-- what rising offsets say of each
+module _ (n : ℕ) (offsets : List ℕ) (e : rising n offsets ≡ true) (k : ℕ) (h : k + 1 < length offsets) where
+  pub rises : getD offsets k 0 < getD offsets (k + 1) 0
+  unfolding rising
+  rises = ltb-true _ _ (chain-at 0 ltb offsets (and-right (all (λ o. leb o n) offsets) (chain ltb offsets) e) k h)
+
+  pub within-table : getD offsets (k + 1) 0 ≤ n
+  unfolding rising
+  within-table = leb-true _ _ (all-at 0 (λ o. leb o n) offsets (and-left (all (λ o. leb o n) offsets) (chain ltb offsets) e) (k + 1) h)
+
+-- ---- the lookup
+-- what is left of the table's names from offset k on
+module _ (n table offsets : List ℕ) (k : ℕ) where
+  abbrev pub memberFrom : Bool
+  memberFrom = isMember n (cut table (drop k offsets))
+
+  -- the name between offset k and the next
+  abbrev pub part : List ℕ
+  part = take (getD offsets (k + 1) 0 - getD offsets k 0) (drop (getD offsets k 0) table)
+
+  member-in : k + 1 < length offsets → memberFrom ≡ (sameBytes n part || isMember n (cut table (drop (k + 1) offsets)))
+  unfolding isMember cut
+  member-in h = let l : k < length offsets = omega arith in rw (suffix-in offsets k l, suffix-in offsets (k + 1) h)
+
+  pub hit : k + 1 < length offsets → sameBytes n part ≡ true → memberFrom ≡ true
+  hit h t = member-in h ∙ rw t
+
+  pub miss : k + 1 < length offsets → sameBytes n part ≡ false → isMember n (cut table (drop (k + 1) offsets)) ≡ memberFrom
+  miss h t = sym (member-in h ∙ rw t)
+
+  pub no-more : length offsets ≤ k + 1 → memberFrom ≡ false
+  unfolding isMember cut
+  no-more h =
+      split (ltb k (length offsets)) (λ t. rw (suffix-in offsets k (ltb-true k (length offsets) t), suffix-out offsets (k + 1) h))
+      (λ t. rw (suffix-out offsets k (ltb-false k (length offsets) t)))

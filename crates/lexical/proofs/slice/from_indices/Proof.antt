@@ -1,0 +1,74 @@
+use mathlib.Core.Path.{sym}
+use Rattle.lexical.proofs.Suffix.{part-none, part-out, part-rest}
+use borrow.Author.Needs.{needs}
+use Rattle.lexical.proofs.slice.from_indices.Statement.{statement}
+use Rattle.lexical.proofs.slice.from_indices.Tie as tie
+
+sub-result : tie.Need-sub-result
+sub-result c = search needs
+
+part-result-start : tie.Need-part-result-start
+part-result-start c = search needs
+
+part-result-end : tie.Need-part-result-end
+part-result-end c = search needs
+
+returns : tie.Need-returns
+returns c = search needs
+
+sub-result-2 : tie.Need-sub-result-2
+sub-result-2 c = search needs
+
+part-result-start-2 : tie.Need-part-result-start-2
+part-result-start-2 c = search needs
+
+part-result-end-2 : tie.Need-part-result-end-2
+part-result-end-2 c = search needs
+
+returns-2 : tie.Need-returns-2
+returns-2 c = let args = c .before .before .before .args in sym (part-none (args .bytes .now) (args .start) (args .end) (c .before .if2 .left))
+
+sub-result-3 : tie.Need-sub-result-3
+sub-result-3 c = search needs
+
+part-result-start-3 : tie.Need-part-result-start-3
+part-result-start-3 c = search needs
+
+part-result-end-3 : tie.Need-part-result-end-3
+part-result-end-3 c = search needs
+
+returns-3 : tie.Need-returns-3
+returns-3 c = let args = c .before .before .before .args in sym (part-rest (args .bytes .now) (args .start) (args .end) (c .before .before .if1 .left))
+
+sub-result-4 : tie.Need-sub-result-4
+sub-result-4 c = search needs
+
+part-result-start-4 : tie.Need-part-result-start-4
+part-result-start-4 c = search needs
+
+part-result-end-4 : tie.Need-part-result-end-4
+part-result-end-4 c = search needs
+
+returns-4 : tie.Need-returns-4
+returns-4 c = let args = c .before .before .before .args in sym (part-out (args .bytes .now) (args .start) (args .end) (c .before .if3 .left))
+
+pub from-indices-spec : {M : Type 1} → statement M
+from-indices-spec =
+    tie.close
+    (tie.spec
+    sub-result
+    part-result-start
+    part-result-end
+    returns
+    sub-result-2
+    part-result-start-2
+    part-result-end-2
+    returns-2
+    sub-result-3
+    part-result-start-3
+    part-result-end-3
+    returns-3
+    sub-result-4
+    part-result-start-4
+    part-result-end-4
+    returns-4)

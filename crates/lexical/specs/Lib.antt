@@ -1,0 +1,5 @@
+pub mod Text
+pub mod Byte
+pub mod Name
+pub mod Line
+pub mod Point

@@ -1,0 +1,137 @@
+-- Names of tags, from CommonMark 0.31.2, section 4.6, and the CDATA prefix.
+use Prim.Native.Nat.{ℕ, _+_, _-_}
+use mathlib.Core.Bool.{Bool, true, false, _&&_, _||_}
+use mathlib.Core.List.{List, [], _∷_, _++_, map}
+use lib.Dec.{eqb, leb, ltb}
+use lib.ListN.{length, take, drop}
+use Rattle.lexical.specs.Text.{bytes}
+use Rattle.lexical.specs.Byte.{lower}
+
+-- 4.6, start condition 6: the 62 names
+unfoldable pub blockNames : List (List ℕ)
+unfolding bytes
+blockNames =
+    bytes "address" ∷
+    bytes "article" ∷
+    bytes "aside" ∷
+    bytes "base" ∷
+    bytes "basefont" ∷
+    bytes "blockquote" ∷
+    bytes "body" ∷
+    bytes "caption" ∷
+    bytes "center" ∷
+    bytes "col" ∷
+    bytes "colgroup" ∷
+    bytes "dd" ∷
+    bytes "details" ∷
+    bytes "dialog" ∷
+    bytes "dir" ∷
+    bytes "div" ∷
+    bytes "dl" ∷
+    bytes "dt" ∷
+    bytes "fieldset" ∷
+    bytes "figcaption" ∷
+    bytes "figure" ∷
+    bytes "footer" ∷
+    bytes "form" ∷
+    bytes "frame" ∷
+    bytes "frameset" ∷
+    bytes "h1" ∷
+    bytes "h2" ∷
+    bytes "h3" ∷
+    bytes "h4" ∷
+    bytes "h5" ∷
+    bytes "h6" ∷
+    bytes "head" ∷
+    bytes "header" ∷
+    bytes "hr" ∷
+    bytes "html" ∷
+    bytes "iframe" ∷
+    bytes "legend" ∷
+    bytes "li" ∷
+    bytes "link" ∷
+    bytes "main" ∷
+    bytes "menu" ∷
+    bytes "menuitem" ∷
+    bytes "nav" ∷
+    bytes "noframes" ∷
+    bytes "ol" ∷
+    bytes "optgroup" ∷
+    bytes "option" ∷
+    bytes "p" ∷
+    bytes "param" ∷
+    bytes "search" ∷
+    bytes "section" ∷
+    bytes "summary" ∷
+    bytes "table" ∷
+    bytes "tbody" ∷
+    bytes "td" ∷
+    bytes "tfoot" ∷
+    bytes "th" ∷
+    bytes "thead" ∷
+    bytes "title" ∷
+    bytes "tr" ∷
+    bytes "track" ∷
+    bytes "ul" ∷
+    []
+
+-- 4.6, start condition 1: the four names
+unfoldable pub rawNames : List (List ℕ)
+unfolding bytes
+rawNames = bytes "pre" ∷ bytes "script" ∷ bytes "style" ∷ bytes "textarea" ∷ []
+
+-- two byte strings are the same
+unfoldable pub sameBytes : List ℕ → List ℕ → Bool
+sameBytes [] [] = true
+sameBytes [] (y ∷ ys) = false
+sameBytes (x ∷ xs) [] = false
+sameBytes (x ∷ xs) (y ∷ ys) = eqb x y && sameBytes xs ys
+
+-- a name is one of a list
+unfoldable pub isMember : List ℕ → List (List ℕ) → Bool
+isMember n [] = false
+isMember n (x ∷ xs) = sameBytes n x || isMember n xs
+
+-- 4.6: names are matched case-insensitively
+unfoldable pub isBlockName : List ℕ → Bool
+isBlockName n = isMember (map lower n) blockNames
+
+unfoldable pub isRawName : List ℕ → Bool
+isRawName n = isMember (map lower n) rawNames
+
+-- 6.6: a CDATA section begins with `<![CDATA[`; what follows `<![`
+unfoldable pub cdataPrefix : List ℕ
+unfolding bytes
+cdataPrefix = bytes "CDATA["
+
+-- ---- 01, What form to use where: names end to end, and the offsets that cut them
+-- the names end to end
+unfoldable pub nameBytes : List (List ℕ) → List ℕ
+nameBytes [] = []
+nameBytes (x ∷ xs) = x ++ nameBytes xs
+
+-- where each name begins, the first at n, and last where they end
+unfoldable pub nameOffsets : ℕ → List (List ℕ) → List ℕ
+nameOffsets n [] = n ∷ []
+nameOffsets n (x ∷ xs) = n ∷ nameOffsets (n + length x) xs
+
+-- the parts of a table from each offset to the next
+unfoldable pub cut : List ℕ → List ℕ → List (List ℕ)
+cut table [] = []
+cut table (a ∷ []) = []
+cut table (a ∷ b ∷ rest) = take (b - a) (drop a table) ∷ cut table (b ∷ rest)
+
+-- every entry passes a test
+unfoldable pub all : {A : Type 0} → (A → Bool) → List A → Bool
+all f [] = true
+all f (x ∷ xs) = f x && all f xs
+
+-- every entry stands in a relation to the next
+unfoldable pub chain : {A : Type 0} → (A → A → Bool) → List A → Bool
+chain f [] = true
+chain f (x ∷ []) = true
+chain f (x ∷ y ∷ rest) = f x y && chain f (y ∷ rest)
+
+-- offsets rise strictly, and none is above n
+unfoldable pub rising : ℕ → List ℕ → Bool
+rising n offsets = all (λ o. leb o n) offsets && chain ltb offsets

@@ -1,0 +1,190 @@
+// constant.rs: names, the CDATA prefix and sizes.
+ghost use mathlib.Core.Path.{_≡_};
+ghost use mathlib.Core.List.{map};
+ghost use mathlib.Core.Bool.{true};
+ghost use lib.Dec.{eqb, ltb};
+ghost use lib.ListN.{length, drop};
+ghost use Rattle.lexical.specs.Text.{first, limit};
+ghost use Rattle.lexical.specs.Byte.{lower};
+ghost use Rattle.lexical.specs.Name.{sameBytes, isMember, isBlockName, isRawName, blockNames, rawNames, nameBytes, nameOffsets, cut, rising, cdataPrefix};
+use crate::byte::to_ascii_lowercase;
+
+// The names that open an HTML block of kind 6, end to end, and where each begins; the last offset is where the last name ends.
+const HTML_BLOCK_NAMES: [u8; 294] =
+    *b"addressarticleasidebasebasefontblockquotebodycaptioncentercolcolgroupdddetailsdialogdirdivdldtfieldsetfigcaptionfigurefooterformframeframeseth1h2h3h4h5h6headheaderhrhtmliframelegendlilinkmainmenumenuitemnavnoframesoloptgroupoptionpparamsearchsectionsummarytabletbodytdtfootththeadtitletrtrackul";
+
+const HTML_BLOCK_OFFSETS: [usize; 63] = [
+    0,
+    7,
+    14,
+    19,
+    23,
+    31,
+    41,
+    45,
+    52,
+    58,
+    61,
+    69,
+    71,
+    78,
+    84,
+    87,
+    90,
+    92,
+    94,
+    102,
+    112,
+    118,
+    124,
+    128,
+    133,
+    141,
+    143,
+    145,
+    147,
+    149,
+    151,
+    153,
+    157,
+    163,
+    165,
+    169,
+    175,
+    181,
+    183,
+    187,
+    191,
+    195,
+    203,
+    206,
+    214,
+    216,
+    224,
+    230,
+    231,
+    236,
+    242,
+    249,
+    256,
+    261,
+    266,
+    268,
+    273,
+    275,
+    280,
+    285,
+    287,
+    292,
+    294,
+];
+
+// The names that open an HTML block of kind 1, in the same form.
+const HTML_RAW_NAMES: [u8; 22] = *b"prescriptstyletextarea";
+
+const HTML_RAW_OFFSETS: [usize; 5] = [0, 3, 9, 14, 22];
+
+// The length of the longest raw name.
+pub const HTML_RAW_SIZE_MAX: usize = 8;
+
+// What follows `<![` in a CDATA section's opening.
+const HTML_CDATA_PREFIX: [u8; 6] = *b"CDATA[";
+
+// Columns from one tab stop to the next.
+pub const TAB_SIZE: usize = 4;
+
+// The most bytes of a bulletin or a text.
+const LIMIT: usize = 16000;
+
+// Whether the name, in lower case, is the part.
+fn same_lower(name: &[u8], part: &[u8]) -> bool
+    ensures { λ r. ⌜ r ≡ sameBytes (map lower (now (name .entry))) (now (part .entry)) ⌝ }
+{
+    if name.len() != part.len() {
+        return false;
+    }
+    let mut i = 0;
+    while i < name.len() {
+        if to_ascii_lowercase(name[i]) != part[i] {
+            return false;
+        }
+        i += 1;
+    }
+    true
+}
+
+// Whether the name, in lower case, is one of those that the offsets cut from the table.
+fn is_member(name: &[u8], table: &[u8], offsets: &[usize]) -> bool
+    requires { ⌜ rising (length (now table)) (now offsets) ≡ true ⌝ }
+    ensures { λ r. ⌜ r ≡ isMember (map lower (now (name .entry))) (cut (now (table .entry)) (now (offsets .entry))) ⌝ }
+{
+    let mut k = 0;
+    while k + 1 < offsets.len() {
+        let start = offsets[k];
+        let end = offsets[k + 1];
+        if same_lower(name, &table[start..end]) {
+            return true;
+        }
+        k += 1;
+    }
+    false
+}
+
+fn block_names() -> [u8; 294]
+    ensures { λ r. ⌜ r ≡ nameBytes blockNames ⌝ }
+{
+    HTML_BLOCK_NAMES
+}
+
+fn block_offsets() -> [usize; 63]
+    ensures { λ r. ⌜ r ≡ nameOffsets 0 blockNames ⌝ }
+{
+    HTML_BLOCK_OFFSETS
+}
+
+fn raw_names() -> [u8; 22]
+    ensures { λ r. ⌜ r ≡ nameBytes rawNames ⌝ }
+{
+    HTML_RAW_NAMES
+}
+
+fn raw_offsets() -> [usize; 5]
+    ensures { λ r. ⌜ r ≡ nameOffsets 0 rawNames ⌝ }
+{
+    HTML_RAW_OFFSETS
+}
+
+// Whether the bytes are one of the 62 block names, letter case ignored.
+pub fn is_block_name(name: &[u8]) -> bool
+    ensures { λ r. ⌜ r ≡ isBlockName (now (name .entry)) ⌝ }
+{
+    let table = block_names();
+    let offsets = block_offsets();
+    is_member(name, &table, &offsets)
+}
+
+// Whether the bytes are one of the 4 raw names, letter case ignored.
+pub fn is_raw_name(name: &[u8]) -> bool
+    ensures { λ r. ⌜ r ≡ isRawName (now (name .entry)) ⌝ }
+{
+    let table = raw_names();
+    let offsets = raw_offsets();
+    is_member(name, &table, &offsets)
+}
+
+// Whether the byte is the one that follows so many bytes of the CDATA prefix.
+pub fn is_cdata_prefix_byte(size: usize, b: u8) -> bool
+    ensures { λ r. ⌜ r ≡ eqb b (first (drop size cdataPrefix)) ⌝ }
+{
+    if size < 6 {
+        return b == HTML_CDATA_PREFIX[size];
+    }
+    false
+}
+
+// Whether a bulletin or a text has more bytes than are taken.
+pub fn is_over_limit(bytes: &[u8]) -> bool
+    ensures { λ r. ⌜ r ≡ ltb limit (length (now (bytes .entry))) ⌝ }
+{
+    LIMIT < bytes.len()
+}
