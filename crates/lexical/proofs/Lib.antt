@@ -3,6 +3,8 @@ pub mod Suffix
 pub mod Run
 pub mod Ending
 pub mod Moves
+pub mod Readings
+pub mod Bounds
 pub mod Table
 pub mod Same
 pub mod Names

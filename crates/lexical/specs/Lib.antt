@@ -3,3 +3,4 @@ pub mod Byte
 pub mod Name
 pub mod Line
 pub mod Point
+pub mod Rows

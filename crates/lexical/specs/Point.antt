@@ -60,6 +60,15 @@ moved p Ignore = skipByte p
 moved p (Insert b) = nextReading p
 moved p End = p
 
+-- n readings further at the same byte
+unfoldable pub readOn : ℕ → Point → List ℕ → Point
+readOn zero p s = p
+readOn (suc n) p s = readOn n (moved p (actionAt p s)) s
+
+-- how often the first byte of s is read at column c
+unfoldable pub readings : ℕ → List ℕ → ℕ
+readings c s = pick (eqb (first s) (byte "\t")) (tabReadings c) 1
+
 -- past the first byte of s, by all of its readings
 unfoldable pub passed : Point → List ℕ → Point
 passed p s =

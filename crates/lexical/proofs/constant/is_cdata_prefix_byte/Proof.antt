@@ -19,7 +19,7 @@ returns c = sym (ap (eqb (c .before .args .b)) (first-in cdataPrefix _ (c .if1 .
 
 returns-2 : tie.Need-returns-2
 unfolding cdataPrefix
-returns-2 c = 
+returns-2 c =
     let b = c .before .args .b in
     sym (ap (eqb b) (first-out cdataPrefix _ (c .if1 .left)) ∙ ne-eqb b none (λ e. omega (arith, c .before .fits .b)))
 

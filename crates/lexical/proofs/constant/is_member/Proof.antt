@@ -60,7 +60,7 @@ loop-less : tie.Need-loop-less Inv-loop μ-loop
 loop-less c = search needs
 
 loop-again : tie.Need-loop-again Inv-loop μ-loop
-loop-again c = 
+loop-again c =
     let at-loop = c .before .before .before .before .before .before in
     (omega arith, miss _ _ _ (at-loop .loop .k) (c .before .before .before .before .before .loop-test .taken) (sym (c .before .same-lower .ensures) ∙ c .if1 .left) ∙ at-loop .loop .inv .1)
 

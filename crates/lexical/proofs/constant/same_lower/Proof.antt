@@ -34,7 +34,7 @@ shared-slice-read-if2 : tie.Need-shared-slice-read-if2 Inv-loop μ-loop
 shared-slice-read-if2 c = omega arith
 
 returns-2 : tie.Need-returns-2 Inv-loop μ-loop
-returns-2 c = 
+returns-2 c =
     let at-loop = c .before .before .before .before .before in
     sym (same-stop lower _ _ (at-loop .loop .i) (omega arith) (omega arith) (λ e. c .if2 .taken (c .before .before .to-ascii-lowercase .ensures ∙ e))) ∙ at-loop .loop .inv .2
 
@@ -45,7 +45,7 @@ loop-less : tie.Need-loop-less Inv-loop μ-loop
 loop-less c = search needs
 
 loop-again : tie.Need-loop-again Inv-loop μ-loop
-loop-again c = 
+loop-again c =
     let at-loop = c .before .before .before .before .before in
     (omega arith, at-loop .loop .inv .1, same-next lower _ _ (at-loop .loop .i) (omega arith) (omega arith) (sym (c .before .before .to-ascii-lowercase .ensures) ∙ c .if2 .left) ∙ at-loop .loop .inv .2)
 

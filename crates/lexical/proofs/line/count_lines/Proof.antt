@@ -31,7 +31,7 @@ loop-less : tie.Need-loop-less Inv-loop μ-loop
 loop-less c = search needs
 
 loop-again : tie.Need-loop-again Inv-loop μ-loop
-loop-again c = 
+loop-again c =
     let at-loop = c .before .before .before in
     let e = count-in (at-loop .before .before .args .bytes .now) (at-loop .loop .i) true (c .before .before .loop-test .taken) (sym (c .before .ends-line .ensures) ∙ c .if1 .taken) in
     omega arith
@@ -40,14 +40,14 @@ loop-less-2 : tie.Need-loop-less-2 Inv-loop μ-loop
 loop-less-2 c = search needs
 
 loop-again-2 : tie.Need-loop-again-2 Inv-loop μ-loop
-loop-again-2 c = 
+loop-again-2 c =
     let at-loop = c .before .before .before in
     let e = count-in (at-loop .before .before .args .bytes .now) (at-loop .loop .i) false (c .before .before .loop-test .taken) (sym (c .before .ends-line .ensures) ∙ c .if1 .left) in
     omega arith
 
 returns : tie.Need-returns Inv-loop μ-loop
 unfolding lines
-returns c = 
+returns c =
     let e = count-out (c .before .before .before .args .bytes .now) (c .before .loop .i) (c .loop-test .left) in
     omega arith
 

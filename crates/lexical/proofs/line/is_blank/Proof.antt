@@ -16,7 +16,7 @@ peek-requires : tie.Need-peek-requires
 peek-requires c κs = search needs
 
 returns : tie.Need-returns
-returns c = 
+returns c =
     let args = c .before .before .before .args in
     ap (λ b. eqb b 256 || (eqb b 10 || eqb b 13)) (c .peek .ensures)
     ∙ ap (λ j. atLineEnd (drop j (args .bytes .now))) (c .before .space-or-tab-end .ensures)

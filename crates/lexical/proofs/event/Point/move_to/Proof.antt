@@ -19,7 +19,7 @@ loop-holds : tie.Need-loop-holds Inv-loop μ-loop
 loop-holds c = refl
 
 returns : tie.Need-returns Inv-loop μ-loop
-returns c = 
+returns c =
     let at-loop = c .before .before in
     let args = at-loop .before .before .args in
     sym (moved-out (at-loop .loop .point) (args .bytes .now) (at-loop .loop .i) (args .index - at-loop .loop .i) (c .if1 .taken)) ∙ at-loop .loop .inv
@@ -34,7 +34,7 @@ loop-less : tie.Need-loop-less Inv-loop μ-loop
 loop-less c = search needs
 
 loop-again : tie.Need-loop-again Inv-loop μ-loop
-loop-again c = 
+loop-again c =
     let at-loop = c .before .before .before in
     let args = at-loop .before .before .args in
     let i = at-loop .loop .i in

@@ -1,0 +1,60 @@
+-- The rows of 01 on tokenizer.rs and constant.rs, each a test, proved together by one computed fact.
+use Prim.Native.Nat.{ℕ, zero, suc}
+use mathlib.Core.Path.{_≡_, refl}
+use mathlib.Core.Bool.{Bool, true, not}
+use mathlib.Core.List.{List, [], _∷_}
+use lib.Dec.{eqb}
+use Rattle.lexical.specs.Text.{bytes, run}
+use Rattle.lexical.specs.Line.{lineEnding, endsLine, lineEndings, lines, isBlank}
+use Rattle.lexical.specs.Name.{all, blockNames, rawNames, sameBytes, isMember, isBlockName, isRawName}
+use Rattle.lexical.specs.Point.{point, tabReadings, tabRead, actionAt, moved}
+use Rattle.lexical.specs.declared.event.Point.{Point}
+use Rattle.lexical.specs.declared.tokenizer.ByteAction.{ByteAction}
+use Rattle.lexical.specs.declared.tokenizer.ByteAction.the-variants.{Normal, Ignore, Insert, End}
+
+-- what an action reads, and what is read after it at the same byte
+abbrev pub reading : ByteAction → List ℕ → List ℕ
+reading (Normal b) more = b ∷ []
+reading Ignore more = []
+reading (Insert b) more = b ∷ more
+reading End more = []
+
+-- what the first byte of s is read as, in at most n readings
+abbrev pub reads : ℕ → Point → List ℕ → List ℕ
+reads zero p s = []
+reads (suc n) p s = reading (actionAt p s) (reads n (moved p (actionAt p s)) s)
+
+-- a text at a column is read as another
+abbrev pub readAs : ℕ → List ℕ → List ℕ → Bool
+readAs column s t = sameBytes (reads 5 (point 1 column 0 0) s) t
+
+unfoldable pub rows : List Bool
+unfolding bytes tabReadings tabRead actionAt moved sameBytes isMember blockNames rawNames isBlockName isRawName lineEnding endsLine lineEndings lines isBlank run
+rows =
+    -- (P) a tab at column 1 has four readings, at column 4 one
+    eqb (tabReadings 1) 4 ∷
+    eqb (tabReadings 4) 1 ∷
+    -- first as tab, then as spaces
+    readAs 1 (bytes "\t") (bytes "\t   ") ∷
+    readAs 4 (bytes "\t") (bytes "\t") ∷
+    -- CR before LF is skipped; a lone CR reads as LF
+    readAs 1 (bytes "\r\n") [] ∷
+    readAs 1 (bytes "\ra") (bytes "\n") ∷
+    -- (P) `search` is a block name; `source` is not
+    isBlockName (bytes "search") ∷
+    not (isBlockName (bytes "source")) ∷
+    -- letter case does not matter
+    isBlockName (bytes "bLockQuote") ∷
+    isRawName (bytes "SCRIPT") ∷
+    not (isRawName (bytes "scripts")) ∷
+    -- one line more than line endings; CR LF is one
+    eqb (lines []) 1 ∷
+    eqb (lines (bytes "a\r\nb\rc\n")) 4 ∷
+    -- a line of only spaces and tabs is blank
+    isBlank (bytes " \t\nx") ∷
+    not (isBlank (bytes " \tx")) ∷
+    []
+
+pub rows-hold : all (λ b. b) rows ≡ true
+unfolding rows all
+rows-hold = refl
