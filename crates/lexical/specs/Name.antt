@@ -9,7 +9,6 @@ use Rattle.lexical.specs.Byte.{lower}
 
 -- 4.6, start condition 6: the 62 names
 unfoldable pub blockNames : List (List ℕ)
-unfolding bytes
 blockNames =
     bytes "address" ∷
     bytes "article" ∷
@@ -77,7 +76,6 @@ blockNames =
 
 -- 4.6, start condition 1: the four names
 unfoldable pub rawNames : List (List ℕ)
-unfolding bytes
 rawNames = bytes "pre" ∷ bytes "script" ∷ bytes "style" ∷ bytes "textarea" ∷ []
 
 -- two byte strings are the same
@@ -101,7 +99,6 @@ isRawName n = isMember (map lower n) rawNames
 
 -- 6.6: a CDATA section begins with `<![CDATA[`; what follows `<![`
 unfoldable pub cdataPrefix : List ℕ
-unfolding bytes
 cdataPrefix = bytes "CDATA["
 
 -- ---- 01, What form to use where: names end to end, and the offsets that cut them

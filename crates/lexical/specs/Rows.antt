@@ -29,7 +29,7 @@ abbrev pub readAs : ℕ → List ℕ → List ℕ → Bool
 readAs column s t = sameBytes (reads 5 (point 1 column 0 0) s) t
 
 unfoldable pub rows : List Bool
-unfolding bytes tabReadings tabRead actionAt moved sameBytes isMember blockNames rawNames isBlockName isRawName lineEnding endsLine lineEndings lines isBlank run
+unfolding tabReadings tabRead actionAt moved sameBytes isMember blockNames rawNames isBlockName isRawName lineEnding endsLine lineEndings lines isBlank run
 rows =
     -- (P) a tab at column 1 has four readings, at column 4 one
     eqb (tabReadings 1) 4 ∷

@@ -10,7 +10,7 @@ abbrev pub byte : Char → ℕ
 byte c = code c
 
 -- the bytes of a text of ASCII characters
-unfoldable pub bytes : String → List ℕ
+abbrev pub bytes : String → List ℕ
 bytes nil = []
 bytes (cons c s) = code c ∷ bytes s
 

@@ -1,0 +1,128 @@
+-- HTML blocks, CommonMark 0.31.2, 4.6, with F1 to F6. A block is a run of lines.
+use Prim.Native.Nat.{ℕ, zero, suc, _+_, _%_}
+use mathlib.Core.Bool.{Bool, true, false, _&&_, _||_, not}
+use mathlib.Core.List.{List, [], _∷_, _++_}
+use lib.Dec.{eqb, leb}
+use lib.ListN.{length, take, drop}
+use Rattle.lexical.specs.Text.{byte, bytes, first, run}
+use Rattle.lexical.specs.Byte.{isLetter, isTagNameByte, isSpaceOrTab}
+use Rattle.lexical.specs.Name.{isBlockName, isRawName}
+use Rattle.lexical.specs.Line.{isBlank, atLineEnd}
+use Rattle.rules.specs.Search.{choose, begins, somewhere, Left, left, nothing, orElse}
+use Rattle.rules.specs.Tag.{blockTags, openTag, closingTag}
+use Rattle.rules.specs.Lines.{Line, isLazy, isInterrupt}
+use Rattle.rules.specs.declared.Rules.{Rules}
+
+-- ---- start conditions, of a line behind its indentation
+-- a tag name in front, and what follows it
+abbrev pub nameOf : List ℕ → List ℕ
+nameOf s = take (run isTagNameByte s) s
+
+abbrev pub afterName : List ℕ → List ℕ
+afterName s = drop (run isTagNameByte s) s
+
+-- followed by a space, a tab, `>` or the end of the line
+abbrev pub nameEnds : List ℕ → Bool
+nameEnds s = atLineEnd s || (isSpaceOrTab (first s) || begins (bytes ">") s)
+
+-- 1: `<` and a raw name
+unfoldable pub startsRaw : List ℕ → Bool
+startsRaw s = begins (bytes "<") s && (isRawName (nameOf (drop 1 s)) && nameEnds (afterName (drop 1 s)))
+
+-- a block name, followed by one of these or by `/>`
+abbrev pub basicName : List ℕ → Bool
+basicName s = isBlockName (nameOf s) && (nameEnds (afterName s) || begins (bytes "/>") (afterName s))
+
+-- 6: `<` or `</` and a block name
+unfoldable pub startsBasic : List ℕ → Bool
+startsBasic s = (begins (bytes "<") s && basicName (drop 1 s)) || (begins (bytes "</") s && basicName (drop 2 s))
+
+-- only spaces and tabs follow, to the end of the line
+abbrev pub fillsLine : Left → Bool
+fillsLine (left s) = isBlank s
+fillsLine nothing = false
+
+-- 7: a complete open tag with any name but a raw one, or a complete closing tag, and nothing more; F3: or a raw one
+unfoldable pub startsComplete : Rules → List ℕ → Bool
+startsComplete ρ s =
+    ((ρ .f3 || not (isRawName (nameOf (drop 1 s)))) && fillsLine (openTag (blockTags ρ) s)) || fillsLine (closingTag s)
+
+-- 7 cannot interrupt a paragraph; F6: unless the line is lazy
+abbrev pub mayStart : Rules → ℕ → Bool
+mayStart ρ f = not (isInterrupt f) || (ρ .f6 && isLazy f)
+
+-- the kind whose condition holds, or 0
+unfoldable pub kindAt : Rules → ℕ → List ℕ → ℕ
+kindAt ρ f s =
+    choose (startsRaw s) (λ _. 1)
+    (λ _. choose (begins (bytes "<!--") s) (λ _. 2)
+    (λ _. choose (begins (bytes "<?") s) (λ _. 3)
+    (λ _. choose (begins (bytes "<!") s && isLetter (first (drop 2 s))) (λ _. 4)
+    (λ _. choose (begins (bytes "<![CDATA[") s) (λ _. 5)
+    (λ _. choose (startsBasic s) (λ _. 6)
+    (λ _. choose (startsComplete ρ s && mayStart ρ f) (λ _. 7) (λ _. 0)))))))
+
+-- up to three spaces of indentation; a tab is more than three
+abbrev pub indentation : List ℕ → ℕ
+indentation s = run (λ b. eqb b (byte " ")) s
+
+unfoldable pub kindOf : Rules → Line → ℕ
+kindOf ρ l =
+    choose (leb (indentation (l .content)) 3) (λ _. kindAt ρ (l .flag) (drop (indentation (l .content)) (l .content))) (λ _. 0)
+
+-- ---- end conditions
+-- 1: an end tag with a raw name, which need not be the start tag's
+abbrev pub isRawEnd : List ℕ → Bool
+isRawEnd s = begins (bytes "</") s && (isRawName (nameOf (drop 2 s)) && begins (bytes ">") (afterName (drop 2 s)))
+
+-- F1: a maximal, even, nonempty run of `]` before `>`; n of it stand just before s
+unfoldable pub closesEven : ℕ → List ℕ → Bool
+closesEven n [] = false
+closesEven n (x ∷ xs) =
+    choose (eqb x (byte "]")) (λ _. closesEven (suc n) xs)
+    (λ _. (eqb x (byte ">") && (not (eqb n 0) && eqb (n % 2) 0)) || closesEven 0 xs)
+
+-- a line contains the closer of kind k
+unfoldable pub closes : Rules → ℕ → List ℕ → Bool
+closes ρ k s =
+    choose (eqb k 1) (λ _. somewhere isRawEnd s)
+    (λ _. choose (eqb k 2) (λ _. somewhere (begins (bytes "-->")) s)
+    (λ _. choose (eqb k 3) (λ _. somewhere (begins (bytes "?>")) s)
+    (λ _. choose (eqb k 4) (λ _. somewhere (begins (bytes ">")) s)
+    (λ _. choose (eqb k 5) (λ _. choose (ρ .f1) (λ _. closesEven 0 s) (λ _. somewhere (begins (bytes "]]>")) s))
+    (λ _. false)))))
+
+-- ---- the block
+-- how many lines it takes, and whether a closer was met
+pub record Extent : Type 0 where
+  pub lines : ℕ
+  pub closed : Bool
+
+abbrev pub extent : ℕ → Bool → Extent
+extent n c = record { lines = n; closed = c }
+
+abbrev pub oneMore : Extent → Extent
+oneMore e = extent (suc (e .lines)) (e .closed)
+
+-- 01: a lazy line ends every kind; a blank one ends kinds 6 and 7
+abbrev pub endsBefore : ℕ → Line → Bool
+endsBefore k l = isLazy (l .flag) || (leb 6 k && isBlank (l .content))
+
+-- of the lines behind the first
+unfoldable pub goesOn : Rules → ℕ → List Line → Extent
+goesOn ρ k [] = extent 0 false
+goesOn ρ k (l ∷ ls) =
+    choose (endsBefore k l) (λ _. extent 0 false)
+    (λ _. choose (closes ρ k (l .content)) (λ _. extent 1 true) (λ _. oneMore (goesOn ρ k ls)))
+
+-- of all lines, the first of which opens kind k
+unfoldable pub extentOf : Rules → ℕ → Line → List Line → Extent
+extentOf ρ k l ls = choose (closes ρ k (l .content)) (λ _. extent 1 true) (λ _. oneMore (goesOn ρ k ls))
+
+-- where the content of the last of n lines ends, the first beginning at i
+unfoldable pub stopAfter : ℕ → ℕ → List Line → ℕ
+stopAfter i zero ls = i
+stopAfter i (suc n) [] = i
+stopAfter i (suc zero) (l ∷ ls) = i + length (l .content)
+stopAfter i (suc (suc n)) (l ∷ []) = i + length (l .content)
+stopAfter i (suc (suc n)) (l ∷ m ∷ ls) = stopAfter (i + length (l .content) + length (m .lead)) (suc n) (m ∷ ls)

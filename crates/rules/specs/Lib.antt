@@ -1,0 +1,11 @@
+pub mod Reading
+pub mod Search
+pub mod Tag
+pub mod Inline
+pub mod Lines
+pub mod Block
+pub mod Refusal
+pub mod Scan
+pub mod Trace
+pub mod Withhold
+pub mod Rows

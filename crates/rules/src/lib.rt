@@ -1,0 +1,20 @@
+// Which of the eight changes to CommonMark 0.31.2 a reading makes. All on is the reading of the Rust crate; all off is the standard to the letter.
+// The definitions of the readings are in specs/.
+pub struct Rules {
+    // Kind 5 closes at a maximal, even, nonempty run of `]` before `>`.
+    pub f1: bool,
+    // A kind 7 attribute name may begin with a digit.
+    pub f2: bool,
+    // Kind 7 admits the four raw names in closing tags and before a direct `/`.
+    pub f3: bool,
+    // A kind 7 unquoted value holds no `/`, and is empty only before `/`.
+    pub f4: bool,
+    // After a kind 7 unquoted value, optional spaces or tabs, then `=` and a further value may follow.
+    pub f5: bool,
+    // Kind 7 is refused by interrupt exactly when not lazy.
+    pub f6: bool,
+    // An inline unquoted value holds `/` only as its first byte.
+    pub t1: bool,
+    // The CDATA prefix is compared from the carry.
+    pub t2: bool,
+}
