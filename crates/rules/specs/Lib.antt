@@ -9,3 +9,4 @@ pub mod Scan
 pub mod Trace
 pub mod Withhold
 pub mod Rows
+pub mod Changes

@@ -1,0 +1,219 @@
+-- Where none of the eight changes applies to a scan, its answer is that of the standard reading. Inline: at `<![` only T2 is read, elsewhere only T1. Blocks:
+-- kinds 1 to 6 read only F1; whether a line opens kind 7 is a bit, and the readings without one change bound it from both sides.
+use mathlib.Core.Path.{_≡_, refl, sym, _∙_, ap}
+use mathlib.Core.Bool.{Bool, true, false, _&&_, _||_, not}
+use mathlib.Core.List.{List, [], _∷_}
+use Prim.Native.Nat.{ℕ}
+use lib.Dec.{leb, eqb}
+use lib.ListN.{length, drop}
+use Rattle.lexical.specs.Text.{byte, bytes, first}
+use Rattle.lexical.specs.Byte.{isLetter}
+use Rattle.lexical.specs.Name.{isRawName}
+use Rattle.lexical.proofs.Cases.{split, clash, and-left, and-right}
+use Rattle.rules.specs.Reading.{Change, F1, F2, F3, F4, F5, F6, T1, T2, crate, standard, without}
+use Rattle.rules.specs.Search.{choose, begins, Left, left, nothing}
+use Rattle.rules.specs.Tag.{blockTags, openTag, closingTag}
+use Rattle.rules.specs.Inline.{Read, takes, lacks, carrying, keeping, htmlTag, rawHtml, readInline}
+use Rattle.rules.specs.Lines.{Line, isLazy, isInterrupt}
+use Rattle.rules.specs.Block.{nameOf, startsRaw, startsBasic, fillsLine, startsComplete, mayStart, kindAt, indentation, kindOf, closes, Extent, extent, oneMore, endsBefore, goesOn, extentOf}
+use Rattle.rules.specs.Refusal.{inlineRefusal, blockRefusal}
+use Rattle.rules.specs.Scan.{InlineAnswer, inlineAt, refuseInline, inlineScan, BlockAnswer, foundBlock, noBlock, blockAnswer, blockOf, linesAt, blockAt, refuseBlock, blockScan}
+use Rattle.rules.specs.Changes.{Spares, Unchanged, NoneApplies}
+use Rattle.rules.specs.declared.Rules.{Rules}
+use Rattle.rules.proofs.Complete.{open-grows, open-falls}
+
+-- ---- inline
+-- at `<![` no tag is read
+cdata-alike : (ρ σ : Rules) (k : ℕ) (s : List ℕ) → begins (bytes "<![") s ≡ true → rawHtml ρ k s ≡ rawHtml σ k s
+unfolding rawHtml
+cdata-alike ρ σ k s e = simp e
+
+kept : (k c : ℕ) (l : Left) → keeping k (carrying c l) ≡ carrying k l
+kept k c (left s) = refl
+kept k c nothing = refl
+
+-- elsewhere the carry is not read
+elsewhere : (ρ : Rules) (k : ℕ) (s : List ℕ) → begins (bytes "<![") s ≡ false → readInline ρ k s ≡ carrying k (htmlTag ρ s)
+unfolding rawHtml readInline
+elsewhere ρ k s e = split (ρ .t2) (λ t. simp (t, e)) (λ t. simp (t, e) (kept k 0 (htmlTag ρ s)))
+
+-- at `<![` leaving T2 out gives the standard reading, elsewhere leaving T1 out does
+pub read-without-T2 : (k : ℕ) (s : List ℕ) → begins (bytes "<![") s ≡ true → readInline (without T2) k s ≡ readInline standard k s
+unfolding readInline
+read-without-T2 k s e = ap (keeping k) (cdata-alike (without T2) standard 0 s e)
+
+pub read-without-T1 : (k : ℕ) (s : List ℕ) → begins (bytes "<![") s ≡ false → readInline (without T1) k s ≡ readInline standard k s
+unfolding htmlTag
+read-without-T1 k s e = elsewhere (without T1) k s e ∙ sym (elsewhere standard k s e)
+
+inline-unchanged : (text : List ℕ) (i k : ℕ) → Unchanged (λ ρ. inlineAt ρ text i k)
+unfolding inlineAt
+inline-unchanged text i k h =
+    split (begins (bytes "<![") (drop i text)) (λ e. rw (← read-without-T2 k (drop i text) e) (h T2)) (λ e. rw (← read-without-T1 k (drop i text) e) (h T1))
+
+-- a refusal is the same in every reading
+module _ {A : Type 0} (refuses : Bool) (refused : A) (at : Rules → A) (unchanged : Unchanged at) where
+  unless-refused : Unchanged (λ ρ. choose refuses (λ _. at ρ) (λ _. refused))
+  unless-refused h = split refuses (λ e. simp e (unchanged (λ c. simp e at (h c)))) (λ e. simp e)
+
+-- ---- kinds 1 to 6
+-- the end of a block reads only F1
+module _ (ρ σ : Rules) (e : ρ .f1 ≡ σ .f1) where
+  closes-alike : (k : ℕ) (s : List ℕ) → closes ρ k s ≡ closes σ k s
+  unfolding closes
+  closes-alike k s = simp e
+
+  goes-alike : (k : ℕ) (ls : List Line) → goesOn ρ k ls ≡ goesOn σ k ls
+  unfolding goesOn
+  goes-alike k [] = refl
+  goes-alike k (l ∷ ls) = simp (closes-alike, goes-alike k ls)
+
+  extent-alike : (k : ℕ) (l : Line) (ls : List Line) → extentOf ρ k l ls ≡ extentOf σ k l ls
+  unfolding extentOf
+  extent-alike k l ls = simp (closes-alike, goes-alike)
+
+-- and of kind 7 none
+module _ (ρ σ : Rules) where
+  seven-goes : (ls : List Line) → goesOn ρ 7 ls ≡ goesOn σ 7 ls
+  unfolding goesOn closes
+  seven-goes [] = refl
+  seven-goes (l ∷ ls) = simp (seven-goes ls)
+
+  seven-extent : (l : Line) (ls : List Line) → extentOf ρ 7 l ls ≡ extentOf σ 7 l ls
+  unfolding extentOf closes
+  seven-extent l ls = simp (seven-goes ls)
+
+-- ---- kind 7
+-- whether a line opens it, where it opens no other
+abbrev pub seventh : Rules → ℕ → List ℕ → Bool
+seventh ρ f s = startsComplete ρ s && mayStart ρ f
+
+-- the kind that a line opens is the same in every reading, or 7 or none by that bit
+data Kinds (κ : Rules → ℕ) : Type 0 where
+  fixed : (n : ℕ) → ((ρ : Rules) → κ ρ ≡ n) → Kinds κ
+  bit : (f : ℕ) (s : List ℕ) → ((ρ : Rules) → κ ρ ≡ choose (seventh ρ f s) (λ _. 7) (λ _. 0)) → Kinds κ
+
+kinds-at : (f : ℕ) (s : List ℕ) → Kinds (λ ρ. kindAt ρ f s)
+unfolding kindAt
+kinds-at f s =
+    split (startsRaw s) (λ h. fixed 1 (λ ρ. simp h))
+    (λ a. split (begins (bytes "<!--") s) (λ h. fixed 2 (λ ρ. simp (a, h)))
+    (λ b. split (begins (bytes "<?") s) (λ h. fixed 3 (λ ρ. simp (a, b, h)))
+    (λ c. split (begins (bytes "<!") s && isLetter (first (drop 2 s))) (λ h. fixed 4 (λ ρ. simp (a, b, c, h)))
+    (λ d. split (begins (bytes "<![CDATA[") s) (λ h. fixed 5 (λ ρ. simp (a, b, c, d, h)))
+    (λ e. split (startsBasic s) (λ h. fixed 6 (λ ρ. simp (a, b, c, d, e, h)))
+    (λ g. bit f s (λ ρ. simp (a, b, c, d, e, g))))))))
+
+kinds : (l : Line) → Kinds (λ ρ. kindOf ρ l)
+unfolding kindOf
+kinds l =
+    split (leb (indentation (l .content)) 3)
+    (λ h. indented h (kinds-at (l .flag) (drop (indentation (l .content)) (l .content))))
+    (λ h. fixed 0 (λ ρ. simp h))
+  where
+    indented : leb (indentation (l .content)) 3 ≡ true → Kinds (λ ρ. kindAt ρ (l .flag) (drop (indentation (l .content)) (l .content))) → Kinds (λ ρ. kindOf ρ l)
+    indented h (fixed n e) = fixed n (λ ρ. simp h (e ρ))
+    indented h (bit f s e) = bit f s (λ ρ. simp h (e ρ))
+
+-- ---- the bit
+or-true : (a b : Bool) → (a || b) ≡ true → b ≡ false → a ≡ true
+or-true true b h e = refl
+or-true false b h e = clash b h e
+
+module _ (f : ℕ) (s : List ℕ) where
+  abbrev raw : Bool
+  raw = isRawName (nameOf (drop 1 s))
+
+  abbrev opened : Rules → Bool
+  opened ρ = fillsLine (openTag (blockTags ρ) s)
+
+  abbrev closed : Bool
+  closed = fillsLine (closingTag s)
+
+  -- a closing tag in any reading
+  by-closing : (ρ : Rules) → closed ≡ true → startsComplete ρ s ≡ true
+  unfolding startsComplete
+  by-closing ρ h = split ((ρ .f3 || not raw) && opened ρ) (λ e. simp e) (λ e. simp (e, h))
+
+  -- where no closing tag fills the line, an open tag does
+  by-open : (ρ : Rules) → closed ≡ false → startsComplete ρ s ≡ true → ((ρ .f3 || not raw) && opened ρ) ≡ true
+  unfolding startsComplete
+  by-open ρ n h = or-true ((ρ .f3 || not raw) && opened ρ) closed h n
+
+  complete-of : (ρ : Rules) → ((ρ .f3 || not raw) && opened ρ) ≡ true → startsComplete ρ s ≡ true
+  unfolding startsComplete
+  complete-of ρ h = simp h
+
+  -- all on takes the line: so does the standard
+  falls : ((c : Change) → seventh (without c) f s ≡ true) → seventh standard f s ≡ true
+  falls h =
+      let may : mayStart standard f ≡ true = and-right (startsComplete (without F6) s) (mayStart (without F6) f) (h F6) in
+      split closed (λ e. simp (by-closing standard e, may))
+      (λ e.
+      let open-of : (c : Change) → ((without c .f3 || not raw) && opened (without c)) ≡ true = λ c. by-open (without c) e (and-left (startsComplete (without c) s) (mayStart (without c) f) (h c)) in
+      let plain : not raw ≡ true = and-left (not raw) (opened (without F3)) (open-of F3) in
+      let tag : opened standard ≡ true = open-falls s (open-of F2) (open-of F5) in
+      simp (complete-of standard (simp (plain, tag)), may))
+
+  -- the standard takes the line: so does the reading without F4
+  grows : seventh standard f s ≡ true → seventh (without F4) f s ≡ true
+  grows h =
+      let may : not (isInterrupt f) ≡ true = or-true (not (isInterrupt f)) false (and-right (startsComplete standard s) (mayStart standard f) h) refl in
+      let complete = and-left (startsComplete standard s) (mayStart standard f) h in
+      split closed (λ e. simp (by-closing (without F4) e, may))
+      (λ e.
+      let both = by-open standard e complete in
+      let tag : opened (without F4) ≡ true = open-grows s (and-right (not raw) (opened standard) both) in
+      simp (complete-of (without F4) (simp tag), may))
+
+  pub bits-unchanged : Unchanged (λ ρ. seventh ρ f s)
+  bits-unchanged h =
+      split (seventh crate f s) (λ e. e ∙ sym (falls (λ c. sym (h c) ∙ e)))
+      (λ e. split (seventh standard f s) (λ g. clash (seventh (without F4) f s) (grows g) (sym (h F4) ∙ e)) (λ g. e ∙ sym g))
+
+-- ---- blocks
+-- an answer says which bit it was made from
+same-bit : (p q : Bool) (k t : ℕ) (c : Bool) → choose p (λ _. foundBlock k t c) (λ _. noBlock) ≡ choose q (λ _. foundBlock k t c) (λ _. noBlock) → p ≡ q
+same-bit true true k t c e = refl
+same-bit true false k t c e = cc
+same-bit false true k t c e = cc
+same-bit false false k t c e = refl
+
+module _ (i : ℕ) (l : Line) (ls : List Line) where
+  -- the answer from the kind
+  abbrev byKind : Rules → ℕ → BlockAnswer
+  byKind ρ n = choose (eqb n 0) (λ _. noBlock) (λ _. blockAnswer i (l ∷ ls) n (extentOf ρ n l ls))
+
+  by-kind : (ρ : Rules) (n : ℕ) → kindOf ρ l ≡ n → blockOf ρ i (l ∷ ls) ≡ byKind ρ n
+  unfolding blockOf
+  by-kind ρ n e = rw e
+
+  by-bit : (ρ : Rules) (b : Bool) → kindOf ρ l ≡ choose b (λ _. 7) (λ _. 0)
+      → blockOf ρ i (l ∷ ls) ≡ choose b (λ _. blockAnswer i (l ∷ ls) 7 (extentOf standard 7 l ls)) (λ _. noBlock)
+  by-bit ρ true e = by-kind ρ 7 e ∙ ap (blockAnswer i (l ∷ ls) 7) (seven-extent ρ standard l ls)
+  by-bit ρ false e = by-kind ρ 0 e
+
+  -- kinds 1 to 6 without F1 are the standard's
+  pub block-without-F1 : (n : ℕ) → ((ρ : Rules) → kindOf ρ l ≡ n) → blockOf (without F1) i (l ∷ ls) ≡ blockOf standard i (l ∷ ls)
+  block-without-F1 n e = by-kind (without F1) n (e (without F1)) ∙ rw (extent-alike (without F1) standard refl n l ls) (sym (by-kind standard n (e standard)))
+
+  by-kinds : Kinds (λ ρ. kindOf ρ l) → Unchanged (λ ρ. blockOf ρ i (l ∷ ls))
+  by-kinds (fixed n e) h = h F1 ∙ block-without-F1 n e
+  by-kinds (bit f s e) h =
+      let same = bits-unchanged f s (λ c. same-bit (seventh crate f s) (seventh (without c) f s) 7 _ _ (sym (by-bit crate (seventh crate f s) (e crate)) ∙ h c ∙ by-bit (without c) (seventh (without c) f s) (e (without c)))) in
+      by-bit crate (seventh crate f s) (e crate)
+      ∙ ap (λ b. choose b (λ _. blockAnswer i (l ∷ ls) 7 (extentOf standard 7 l ls)) (λ _. noBlock)) same
+      ∙ sym (by-bit standard (seventh standard f s) (e standard))
+
+block-unchanged : (i : ℕ) (ls : List Line) → Unchanged (λ ρ. blockOf ρ i ls)
+unfolding blockOf
+block-unchanged i [] h = refl
+block-unchanged i (l ∷ ls) h = by-kinds i l ls (kinds l) h
+
+-- ---- the theorem
+pub none-applies : NoneApplies
+unfolding inlineScan blockScan blockAt
+none-applies = record {
+  inline = λ text i k. unless-refused (eqb (inlineRefusal text i k) 0) _ (λ ρ. inlineAt ρ text i k) (inline-unchanged text i k);
+  block = λ text flags i. unless-refused (eqb (blockRefusal text flags i) 0) _ (λ ρ. blockOf ρ i (linesAt text flags i)) (block-unchanged i (linesAt text flags i))
+}
