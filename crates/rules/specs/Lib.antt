@@ -10,3 +10,5 @@ pub mod Trace
 pub mod Withhold
 pub mod Rows
 pub mod Changes
+pub mod Examples
+pub mod Private
