@@ -215,5 +215,5 @@ pub none-applies : NoneApplies
 unfolding inlineScan blockScan blockAt
 none-applies = record {
   inline = λ text i k. unless-refused (eqb (inlineRefusal text i k) 0) _ (λ ρ. inlineAt ρ text i k) (inline-unchanged text i k);
-  block = λ text flags i. unless-refused (eqb (blockRefusal text flags i) 0) _ (λ ρ. blockOf ρ i (linesAt text flags i)) (block-unchanged i (linesAt text flags i))
+  block = λ text flags i. unless-refused (eqb (blockRefusal text flags i) 0) _ (λ ρ. blockOf ρ i (linesAt text flags i)) (block-unchanged i (linesAt text flags i));
 }

@@ -47,12 +47,12 @@ sameBlock (refusedBlock m) (foundBlock l t d) = false
 sameBlock (refusedBlock m) noBlock = false
 sameBlock (refusedBlock m) (refusedBlock n) = eqb m n
 
--- a text of one line at index 0
+-- a text at index 0
 abbrev pub inlineRow : List ℕ → ℕ → InlineAnswer → Bool
 inlineRow text k a = sameInline (inlineScan crate text 0 k) a
 
-abbrev pub blockRow : List ℕ → BlockAnswer → Bool
-blockRow text a = sameBlock (blockScan crate text (0 ∷ []) 0) a
+abbrev pub blockRow : List ℕ → List ℕ → BlockAnswer → Bool
+blockRow text flags a = sameBlock (blockScan crate text flags 0) a
 
 -- 01, The added screen
 abbrev pub bulletin : List ℕ
@@ -77,8 +77,8 @@ rows =
     inlineRow (bytes "<![CDx") 0 (noInline 2) ∷
     inlineRow (bytes "<![ATA[q]]>") 2 (foundInline 11 0) ∷
     -- html_flow.rs
-    blockRow (bytes "<![CDATA[]]]>") (foundBlock 5 13 false) ∷
-    blockRow (bytes "<![CDATA[]]]]>") (foundBlock 5 14 true) ∷
+    blockRow (bytes "<![CDATA[]]]>") (0 ∷ []) (foundBlock 5 13 false) ∷
+    blockRow (bytes "<![CDATA[]]]]>") (0 ∷ []) (foundBlock 5 14 true) ∷
     -- the added screen: two pieces, and what is shown
     sameBytes (shown crate bulletin noFlags) (bytes "door 9\n\n\nok") ∷
     eqb (count crate bulletin noFlags) 2 ∷
@@ -91,6 +91,24 @@ rows =
     ∷ 13 ∷ 3 ∷ 0 ∷ 0 ∷ []) ∷
     []
 
-pub rows-hold : all (λ b. b) rows ≡ true
-unfolding rows run limit lineEnding endsLine lineEndings lines isBlank isLineStart all sameBytes isMember blockNames rawNames isBlockName isRawName cdataPrefix tabReadings passed movedBy pointAt somewhere past throughFirst tagEnd values attributes openTag closingTag comment instruction declaration htmlTag prefix rawHtml readInline cutLines flagged linesOf startsRaw startsBasic startsComplete kindAt kindOf closesEven closes Block.goesOn extentOf stopAfter refusal inlineRefusal blockRefusal bulletinRefusal inlineAt inlineScan blockOf linesAt blockAt blockScan width field pointBytes eventBytes lastBytes textLines textEvents inlineTrace marks goesOn inlinePieces linePieces pieces isWithheld outside shown count
+-- 01, Slips a porter makes, and the indentation of a block
+unfoldable pub slips : List Bool
+slips =
+    -- clearing the carry: `<![CDATA[q]]>` is not found with carry 2
+    inlineRow (bytes "<![CDATA[q]]>") 2 (noInline 2) ∷
+    -- counting CR in a name: `<div` before CR LF is kind 6
+    blockRow (bytes "<div\r\nx") (0 ∷ 0 ∷ []) (foundBlock 6 7 false) ∷
+    -- giving a final LF to kind 6
+    blockRow (bytes "<div>\n") (0 ∷ 0 ∷ []) (foundBlock 6 5 false) ∷
+    -- letting `</script` match a longer name
+    blockRow (bytes "<pre>\n</scripts>") (0 ∷ 0 ∷ []) (foundBlock 1 16 false) ∷
+    blockRow (bytes "<pre>\n</script>") (0 ∷ 0 ∷ []) (foundBlock 1 15 true) ∷
+    -- three leading spaces may open; four, or a tab, may not
+    blockRow (bytes "   <a>") (0 ∷ []) (foundBlock 7 6 false) ∷
+    blockRow (bytes "    <a>") (0 ∷ []) noBlock ∷
+    blockRow (bytes "\t<a>") (0 ∷ []) noBlock ∷
+    []
+
+pub rows-hold : all (λ b. b) (rows ++ slips) ≡ true
+unfolding rows slips run limit lineEnding endsLine lineEndings lines isBlank isLineStart all sameBytes isMember blockNames rawNames isBlockName isRawName cdataPrefix tabReadings passed movedBy pointAt somewhere past throughFirst tagEnd values attributes openTag closingTag comment instruction declaration htmlTag prefix rawHtml readInline cutLines flagged linesOf startsRaw startsBasic startsComplete kindAt kindOf closesEven closes Block.goesOn extentOf stopAfter refusal inlineRefusal blockRefusal bulletinRefusal inlineAt inlineScan blockOf linesAt blockAt blockScan width field pointBytes eventBytes lastBytes textLines textEvents inlineTrace marks goesOn inlinePieces linePieces pieces isWithheld outside shown count
 rows-hold = refl
