@@ -16,6 +16,7 @@ use Rattle.rules.specs.Search.{choose, begins, past, Left, left, nothing
 use Rattle.rules.specs.Tag.{Grammar, blockTags, tagEnd, pastQuote, specification, startsName, isValueByte, pastUnquoted, value, values, attribute, attributes, openTag}
 use Rattle.rules.specs.Block.{fillsLine}
 use Rattle.rules.specs.declared.Rules.{Rules}
+use Rattle.rules.proofs.Past.{past-cases}
 
 -- the grammars: of the standard, and without one change
 abbrev gS : Grammar
@@ -140,12 +141,6 @@ slash (suc n) (y ∷ ys) h =
     split (eqb y (byte ">")) (λ e. rw (eqb-true y (byte ">") e) (rw (eqb-true y (byte ">") e) at h))
     (λ e. clash (fillsLine (attributes g5 (suc n) (byte "/" ∷ y ∷ ys))) h (simp e))
 
--- what holds at the end, and at a byte outside the class, holds behind the class
-past-cases : (P : List ℕ → Type 0) (f : ℕ → Bool) (s : List ℕ) → P [] → ((x : ℕ) (xs : List ℕ) → f x ≡ false → P (x ∷ xs)) → P (past f s)
-unfolding past
-past-cases P f [] nil cons = nil
-past-cases P f (x ∷ xs) nil cons = split (f x) (λ h. simp h (past-cases P f xs nil cons)) (λ h. simp h (cons x xs h))
-
 module _ (b c more : List ℕ → Left) (falls : (s : List ℕ) → Yes b s → Yes c s → Yes more s)
     (signless : (s : List ℕ) → Yes c s → begins (bytes "=") (past isWhitespace s) ≡ false)
     (slashed : (xs : List ℕ) → Yes c (byte "/" ∷ xs) → Yes more (past inStandard xs)) where
@@ -170,7 +165,7 @@ module _ (b c more : List ℕ → Left) (falls : (s : List ℕ) → Yes b s → 
   stop-falls u s =
       rw twice
       (past-cases (λ t. Yes (specification b u) t → Yes c t → Yes more (past inStandard t)) inFlow s (end-falls u)
-      (λ x xs e g h. split (eqb x (byte "/")) (λ k. rw (eqb-true x (byte "/") k) (at-slash xs (rw (eqb-true x (byte "/") k) at h)))
+      (λ x xs e l g h. split (eqb x (byte "/")) (λ k. rw (eqb-true x (byte "/") k) (at-slash xs (rw (eqb-true x (byte "/") k) at h)))
       (λ k. at-stop x xs (same-stop x k e) (falls (x ∷ xs) (simp (signless (x ∷ xs) h) at g) h))))
 
   value-falls : (u v w : List ℕ → Left) (s : List ℕ) → Yes (value g2 b u) s → Yes (value g5 c v) s → Yes (value gS more w) s

@@ -1,3 +1,4 @@
 pub mod Complete
 pub mod Changes
 pub mod Comment
+pub mod Past

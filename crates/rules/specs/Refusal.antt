@@ -43,9 +43,11 @@ abbrev pub wrongCarry : ℕ → Check
 wrongCarry k = check (ltb 5 k) 5
 
 -- 6: two line endings with only spaces, tabs or no bytes between
+unfoldable pub blankFollows : List ℕ → Bool
+blankFollows s = endsLine s && isLineEndingByte (first (past isSpaceOrTab (drop 1 s)))
+
 abbrev pub hasBlankLine : List ℕ → Check
-hasBlankLine text =
-    check (somewhere (λ s. endsLine s && isLineEndingByte (first (past isSpaceOrTab (drop 1 s)))) text) 6
+hasBlankLine text = check (somewhere blankFollows text) 6
 
 -- 7: a buffer with less room than the output needs
 abbrev pub tooShort : ℕ → List ℕ → Check

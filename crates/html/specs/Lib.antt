@@ -1,0 +1,2 @@
+pub mod TextMachine
+pub mod Answer

@@ -1,0 +1,3 @@
+// The inline scanner: html_text.rs and what it leans on of tokenizer.rs.
+pub mod html_text;
+pub mod tokenizer;

@@ -1,0 +1,96 @@
+// tokenizer.rs: the names of the states, the step that calls a state's function, and the run of a scan.
+ghost use mathlib.Core.Path.{_≡_};
+ghost use lib.ListN.{length, drop};
+ghost use Rattle.rules.specs.Reading.{crate as crateReading};
+ghost use Rattle.rules.specs.Scan.{inlineAnswer, inlineAt, inlineScan};
+ghost use Rattle.html.specs.TextMachine.{stepOf, runOf};
+ghost use Rattle.html.specs.Answer.{inlineOf};
+use crate::html_text;
+use rules::Rules;
+
+pub enum StateName {
+    Start,
+    Open,
+    DeclarationOpen,
+    CommentOpenInside,
+    Comment,
+    CommentClose,
+    CommentEnd,
+    CdataOpenInside,
+    Cdata,
+    CdataClose,
+    CdataEnd,
+    Declaration,
+    Instruction,
+    InstructionClose,
+    TagCloseStart,
+    TagClose,
+    TagCloseBetween,
+    TagOpen,
+    TagOpenBetween,
+    TagOpenAttributeName,
+    TagOpenAttributeNameAfter,
+    TagOpenAttributeValueBefore,
+    // With the quotation mark.
+    TagOpenAttributeValueQuoted(u8),
+    TagOpenAttributeValueQuotedAfter,
+    TagOpenAttributeValueUnquoted,
+    End,
+}
+
+// What a state does with a byte: take it and go on with a state and a size, take it as the last, or not take it.
+pub enum State {
+    Next(StateName, u8),
+    Ok,
+    Nok,
+}
+
+// The answer of an inline scan.
+pub enum Inline {
+    Found { stop: usize, carry: u8 },
+    Missing { carry: u8 },
+    Refused { refusal: u8, carry: u8 },
+}
+
+// The state's function on the byte.
+fn step(rules: Rules, state: StateName, size: u8, b: u8) -> State
+    ensures { λ r. ⌜ r ≡ stepOf rules state size b ⌝ }
+{
+    match state {
+        StateName::Start => html_text::start(size, b),
+        StateName::Open => html_text::open(size, b),
+        StateName::DeclarationOpen => html_text::declaration_open(size, b),
+        StateName::CommentOpenInside => html_text::comment_open_inside(size, b),
+        StateName::Comment => html_text::comment(size, b),
+        StateName::CommentClose => html_text::comment_close(size, b),
+        StateName::CommentEnd => html_text::comment_end(size, b),
+        StateName::CdataOpenInside => html_text::cdata_open_inside(size, b),
+        StateName::Cdata => html_text::cdata(size, b),
+        StateName::CdataClose => html_text::cdata_close(size, b),
+        StateName::CdataEnd => html_text::cdata_end(size, b),
+        StateName::Declaration => html_text::declaration(size, b),
+        StateName::Instruction => html_text::instruction(size, b),
+        StateName::InstructionClose => html_text::instruction_close(size, b),
+        StateName::TagCloseStart => html_text::tag_close_start(size, b),
+        StateName::TagClose => html_text::tag_close(size, b),
+        StateName::TagCloseBetween => html_text::tag_close_between(size, b),
+        StateName::TagOpen => html_text::tag_open(size, b),
+        StateName::TagOpenBetween => html_text::tag_open_between(size, b),
+        StateName::TagOpenAttributeName => html_text::tag_open_attribute_name(size, b),
+        StateName::TagOpenAttributeNameAfter => html_text::tag_open_attribute_name_after(size, b),
+        StateName::TagOpenAttributeValueBefore => html_text::tag_open_attribute_value_before(
+            size,
+            b,
+        ),
+        StateName::TagOpenAttributeValueQuoted(marker) =>
+            html_text::tag_open_attribute_value_quoted(marker, size, b),
+        StateName::TagOpenAttributeValueQuotedAfter =>
+            html_text::tag_open_attribute_value_quoted_after(size, b),
+        StateName::TagOpenAttributeValueUnquoted => html_text::tag_open_attribute_value_unquoted(
+            rules,
+            size,
+            b,
+        ),
+        StateName::End => html_text::end(b),
+    }
+}
