@@ -1,2 +1,5 @@
 pub mod Turn
+pub mod Blank
+pub mod Kept
 pub mod TextTags
+pub mod TextMeans

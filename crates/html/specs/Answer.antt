@@ -9,3 +9,9 @@ abbrev pub inlineOf : Inline → InlineAnswer
 inlineOf (Found stop carry) = foundInline stop carry
 inlineOf (Missing carry) = noInline carry
 inlineOf (Refused refusal carry) = refusedInline refusal carry
+
+-- the same answer with another carry
+abbrev pub carryingOf : ℕ → InlineAnswer → InlineAnswer
+carryingOf k (foundInline stop carry) = foundInline stop k
+carryingOf k (noInline carry) = noInline k
+carryingOf k (refusedInline refusal carry) = refusedInline refusal k

@@ -1,8 +1,7 @@
 // tokenizer.rs: the names of the states, the step that calls a state's function, and the run of a scan.
 ghost use mathlib.Core.Path.{_≡_};
 ghost use lib.ListN.{length, drop};
-ghost use Rattle.rules.specs.Reading.{crate as crateReading};
-ghost use Rattle.rules.specs.Scan.{inlineAnswer, inlineAt, inlineScan};
+ghost use Rattle.rules.specs.Scan.{inlineAnswer};
 ghost use Rattle.html.specs.TextMachine.{stepOf, runOf};
 ghost use Rattle.html.specs.Answer.{inlineOf};
 use crate::html_text;
@@ -93,4 +92,30 @@ fn step(rules: Rules, state: StateName, size: u8, b: u8) -> State
         ),
         StateName::End => html_text::end(b),
     }
+}
+
+// From a state at an index to the end of the text.
+pub(crate) fn run(rules: Rules, text: &[u8], from: usize, start: StateName, carry: u8) -> Inline
+    ensures { λ r. ⌜ inlineOf r ≡ inlineAnswer (length (now (text .entry))) (runOf rules start carry (drop from (now (text .entry)))) ⌝ }
+{
+    let mut state = start;
+    let mut size = carry;
+    let mut index = from;
+    while index < text.len() {
+        match step(rules, state, size, text[index]) {
+            State::Next(s, k) => {
+                state = s;
+                size = k;
+            }
+            State::Ok => {
+                let stop = index + 1;
+                return Inline::Found { stop, carry: size };
+            }
+            State::Nok => {
+                return Inline::Missing { carry: size };
+            }
+        }
+        index += 1;
+    }
+    Inline::Missing { carry: size }
 }

@@ -2,3 +2,4 @@ pub mod Complete
 pub mod Changes
 pub mod Comment
 pub mod Past
+pub mod Refusals

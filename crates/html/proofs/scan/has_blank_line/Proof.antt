@@ -1,0 +1,55 @@
+use mathlib.Core.Path.{_≡_, refl, sym, _∙_}
+use mathlib.Core.Bool.{_||_}
+use Prim.Native.Nat.{_-_}
+use lib.ListN.{length, drop}
+use Rattle.rules.specs.Search.{somewhere}
+use Rattle.rules.specs.Refusal.{blankFollows}
+use Rattle.rules.proofs.Past.{somewhere-in, somewhere-out}
+use borrow.Author.Needs.{needs}
+use Rattle.html.proofs.scan.has_blank_line.Statement.{statement}
+use Rattle.html.proofs.scan.has_blank_line.Tie as tie
+
+abbrev Inv-loop : tie.InvT-loop
+Inv-loop text i₀ i = somewhere blankFollows (drop i text) ≡ somewhere blankFollows text
+
+abbrev μ-loop : tie.MeasureT-loop
+μ-loop text i₀ i = length text - i
+
+loop-holds : tie.Need-loop-holds Inv-loop μ-loop
+loop-holds c = refl
+
+blank-follows-requires : tie.Need-blank-follows-requires Inv-loop μ-loop
+blank-follows-requires c κs = search needs
+
+returns : tie.Need-returns Inv-loop μ-loop
+returns c =
+    let at-loop = c .before .before .before in
+    sym (somewhere-in blankFollows _ _ (c .before .before .loop-test .taken) ∙ rw (← c .before .blank-follows .ensures, c .if1 .taken)) ∙ at-loop .loop .inv
+
+add-i : tie.Need-add-i Inv-loop μ-loop
+add-i c = search needs
+
+loop-less : tie.Need-loop-less Inv-loop μ-loop
+loop-less c = search needs
+
+loop-again : tie.Need-loop-again Inv-loop μ-loop
+loop-again c =
+    let at-loop = c .before .before .before in
+    sym (somewhere-in blankFollows _ _ (c .before .before .loop-test .taken) ∙ rw (← c .before .blank-follows .ensures, c .if1 .left)) ∙ at-loop .loop .inv
+
+returns-2 : tie.Need-returns-2 Inv-loop μ-loop
+returns-2 c = sym (somewhere-out blankFollows _ _ (c .loop-test .left)) ∙ c .before .loop .inv
+
+pub has-blank-line-spec : {M : Type 1} → statement M
+has-blank-line-spec =
+    tie.close
+    (tie.spec
+    Inv-loop
+    μ-loop
+    loop-holds
+    blank-follows-requires
+    returns
+    add-i
+    loop-less
+    loop-again
+    returns-2)

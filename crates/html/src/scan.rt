@@ -1,0 +1,122 @@
+// The inline scan: what is read and given, and what is refused.
+ghost use mathlib.Core.Path.{_≡_};
+ghost use Prim.Native.Nat.{_<_, _≤_};
+ghost use lib.ListN.{length, drop};
+ghost use Rattle.rules.specs.Reading.{crate as ofCrate};
+ghost use Rattle.rules.specs.Search.{somewhere};
+ghost use Rattle.rules.specs.Refusal.{blankFollows};
+ghost use Rattle.rules.specs.Scan.{inlineAt, inlineScan};
+ghost use Rattle.html.specs.Answer.{inlineOf, carryingOf};
+use crate::tokenizer::Inline;
+use crate::tokenizer::StateName;
+use crate::tokenizer::run;
+use lexical::byte::peek;
+use lexical::constant::is_over_limit;
+use lexical::line::ends_line;
+use lexical::line::space_or_tab_end;
+use rules::Rules;
+
+// 01, Where each refusal is met.
+const TOO_LONG: u8 = 1;
+
+const WRONG_INDEX: u8 = 4;
+
+const WRONG_CARRY: u8 = 5;
+
+const BLANK_LINE: u8 = 6;
+
+// Whether a line ends at an index and only spaces, tabs or no bytes stand before the next line ending.
+fn blank_follows(text: &[u8], index: usize) -> bool
+    requires { ⌜ index < length (now text) ⌝ }
+    ensures { λ r. ⌜ r ≡ blankFollows (drop index (now (text .entry))) ⌝ }
+{
+    if ends_line(text, index) {
+        let byte = peek(text, space_or_tab_end(text, index + 1));
+        return (byte == 10) | (byte == 13);
+    }
+    false
+}
+
+// Whether two line endings have only spaces, tabs or no bytes between.
+fn has_blank_line(text: &[u8]) -> bool
+    ensures { λ r. ⌜ r ≡ somewhere blankFollows (now (text .entry)) ⌝ }
+{
+    let mut i = 0;
+    while i < text.len() {
+        if blank_follows(text, i) {
+            return true;
+        }
+        i += 1;
+    }
+    false
+}
+
+// The answer with another carry.
+fn keep(answer: Inline, carry: u8) -> Inline
+    ensures { λ r. ⌜ inlineOf r ≡ carryingOf carry (inlineOf answer) ⌝ }
+{
+    match answer {
+        Inline::Found { stop, carry: _ } => Inline::Found { stop, carry },
+        Inline::Missing { carry: _ } => Inline::Missing { carry },
+        Inline::Refused { refusal, carry: _ } => Inline::Refused { refusal, carry },
+    }
+}
+
+// The scan with no check. T2: the CDATA prefix is compared from the carry; without it the carry is neither read nor changed.
+fn scan(rules: Rules, text: &[u8], index: usize, carry: u8) -> Inline
+    requires { ⌜ carry ≤ 5 ⌝ }
+    ensures { λ r. ⌜ inlineOf r ≡ inlineAt rules (now (text .entry)) index carry ⌝ }
+{
+    if rules.t2 {
+        return run(rules, text, index, StateName::Start, carry);
+    }
+    keep(run(rules, text, index, StateName::Start, 0), carry)
+}
+
+// What begins at an index, in any reading and with carry 0. Past the end: none.
+pub fn inline_at(rules: Rules, text: &[u8], index: usize) -> Inline
+    ensures { λ r. ⌜ inlineOf r ≡ inlineAt rules (now (text .entry)) index 0 ⌝ }
+{
+    scan(rules, text, index, 0)
+}
+
+// The inline scan with all eight changes.
+pub fn inline_scan(text: &[u8], index: usize, carry: u8) -> Inline
+    ensures { λ r. ⌜ inlineOf r ≡ inlineScan ofCrate (now (text .entry)) index carry ⌝ }
+{
+    if is_over_limit(text) {
+        return Inline::Refused {
+            refusal: TOO_LONG,
+            carry,
+        };
+    }
+    if index > text.len() {
+        return Inline::Refused {
+            refusal: WRONG_INDEX,
+            carry,
+        };
+    }
+    if carry > 5 {
+        return Inline::Refused {
+            refusal: WRONG_CARRY,
+            carry,
+        };
+    }
+    if has_blank_line(text) {
+        return Inline::Refused {
+            refusal: BLANK_LINE,
+            carry,
+        };
+    }
+    let all = Rules {
+        f1: true,
+        f2: true,
+        f3: true,
+        f4: true,
+        f5: true,
+        f6: true,
+        t1: true,
+        t2: true,
+    };
+    scan(all, text, index, carry)
+}
