@@ -8,7 +8,7 @@ use lib.Dec.{eqb}
 use lib.ListN.{length, getD, drop}
 use lib.Seq.{drop-drop}
 use Rattle.lexical.specs.Text.{byte, pick, first, run}
-use Rattle.lexical.specs.Byte.{isSpaceOrTab}
+use Rattle.lexical.specs.Byte.{isSpaceOrTab, isLineEndingByte}
 use Rattle.lexical.specs.Line.{lineEnding, endsLine, lineEndings, isLineStart, atLineEnd, isBlank}
 use Rattle.lexical.proofs.Suffix.{suffix-in, suffix-out}
 
@@ -53,3 +53,9 @@ start-after s (suc i) h = rw (sub-one)
 pub blank-at : (s : List ℕ) (i : ℕ) → isBlank (drop i s) ≡ atLineEnd (drop (i + run isSpaceOrTab (drop i s)) s)
 unfolding isBlank
 blank-at s i = ap atLineEnd (drop-drop (run isSpaceOrTab (drop i s)) i s)
+
+pub line-end-in : (s : List ℕ) (i : ℕ) → i < length s → atLineEnd (drop i s) ≡ isLineEndingByte (getD s i 0)
+line-end-in s i h = rw (suffix-in s i h)
+
+pub line-end-out : (s : List ℕ) (i : ℕ) → length s ≤ i → atLineEnd (drop i s) ≡ true
+line-end-out s i h = rw (suffix-out s i h)

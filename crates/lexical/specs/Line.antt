@@ -4,7 +4,7 @@ use mathlib.Core.Bool.{Bool, true, false, _&&_, _||_, not}
 use mathlib.Core.List.{List, [], _∷_}
 use lib.Dec.{eqb}
 use lib.ListN.{drop}
-use Rattle.lexical.specs.Text.{byte, pick, none, first, run}
+use Rattle.lexical.specs.Text.{byte, pick, first, run}
 use Rattle.lexical.specs.Byte.{isSpaceOrTab, isLineEndingByte}
 
 -- 2.1: a line ending is LF, CR LF or CR; how many bytes of one stand in front
@@ -37,7 +37,8 @@ lineLength s = run (λ b. not (isLineEndingByte b)) s
 
 -- the line has no more bytes
 abbrev pub atLineEnd : List ℕ → Bool
-atLineEnd s = eqb (first s) none || isLineEndingByte (first s)
+atLineEnd [] = true
+atLineEnd (x ∷ xs) = isLineEndingByte x
 
 -- 01: a line of only spaces and tabs, or of no bytes, is blank
 unfoldable pub isBlank : List ℕ → Bool

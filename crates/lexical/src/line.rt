@@ -5,7 +5,6 @@ ghost use lib.ListN.{drop};
 ghost use Rattle.lexical.specs.Text.{run};
 ghost use Rattle.lexical.specs.Byte.{isSpaceOrTab};
 ghost use Rattle.lexical.specs.Line.{lineEnding, endsLine, lines, isLineStart, lineLength, isBlank};
-use crate::byte::NONE;
 use crate::byte::is_line_ending_byte;
 use crate::byte::is_space_or_tab;
 use crate::byte::peek;
@@ -109,6 +108,9 @@ pub fn space_or_tab_end(bytes: &[u8], index: usize) -> usize
 pub fn is_blank(bytes: &[u8], index: usize) -> bool
     ensures { λ r. ⌜ r ≡ isBlank (drop index (now (bytes .entry))) ⌝ }
 {
-    let byte = peek(bytes, space_or_tab_end(bytes, index));
-    (byte == NONE) | ((byte == 10) | (byte == 13))
+    let end = space_or_tab_end(bytes, index);
+    if end >= bytes.len() {
+        return true;
+    }
+    is_line_ending_byte(bytes[end])
 }
