@@ -1,1 +1,3 @@
+pub mod Answer
 pub mod CompleteMachine
+pub mod ContinuationMachine

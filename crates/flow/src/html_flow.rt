@@ -1,14 +1,25 @@
 // html_flow.rs: HTML blocks. A function for each state.
 ghost use mathlib.Core.Path.{_≡_};
 ghost use Rattle.flow.specs.CompleteMachine.{isTagBreak, isNameStart, isValueEnd, endOf, afterOf, closingTagAfterOf, nameBeforeOf, nameAfterOf, nameOf, valueQuotedOf, valueQuotedAfterOf, valueUnquotedOf, valueBeforeOf};
+ghost use Prim.Native.Nat.{_-_, _<_, _≤_};
+ghost use lib.ListN.{length, drop};
+ghost use Rattle.rules.specs.Search.{somewhere};
+ghost use Rattle.rules.specs.Block.{isRawEnd, closes};
+ghost use Rattle.flow.specs.Answer.{kindNumber};
+ghost use Rattle.flow.specs.ContinuationMachine.{continuationOf, commentInsideOf, cdataInsideOf, stays, declarationInsideOf, nextOf, isClose, meetsOf, rawEndOf};
+ghost use Rattle.flow.specs.declared.html_flow.ContinuationName.the-variants.{Continuation, ContinuationClose};
 use crate::tokenizer::State;
 use crate::tokenizer::StateName;
 use lexical::byte::is_attribute_name_byte;
+use lexical::byte::is_letter;
 use lexical::byte::is_line_ending_byte;
 use lexical::byte::is_quote;
 use lexical::byte::is_space_or_tab;
 use lexical::byte::is_value_excluded;
 use lexical::byte::is_whitespace;
+use lexical::constant::HTML_RAW_SIZE_MAX;
+use lexical::constant::is_raw_name;
+use lexical::slice::from_indices;
 use rules::Rules;
 
 // What may follow a quoted value.
@@ -188,5 +199,258 @@ pub(crate) fn complete_after(b: u8) -> State
         State::Ok
     } else {
         State::Nok
+    }
+}
+
+// The kinds of blocks.
+pub enum Kind {
+    Raw,
+    Comment,
+    Instruction,
+    Declaration,
+    Cdata,
+    Basic,
+    Complete,
+}
+
+// What a line opens.
+pub enum Opening {
+    Shut,
+    Opens(Kind),
+}
+
+// Where a line of kinds 2 to 5 stands on the way to its closer.
+pub enum ContinuationName {
+    Continuation,
+    ContinuationCommentInside,
+    ContinuationCdataInside,
+    ContinuationDeclarationInside,
+    ContinuationClose,
+}
+
+// In a block of kinds 2 to 5, before its closer.
+//
+//     <!--xxx-->
+//         ^
+fn continuation(kind: Kind, b: u8) -> ContinuationName
+    ensures { λ r. ⌜ r ≡ continuationOf kind b ⌝ }
+{
+    match kind {
+        Kind::Comment => if b == b'-' {
+            ContinuationName::ContinuationCommentInside
+        } else {
+            ContinuationName::Continuation
+        },
+        Kind::Instruction => if b == b'?' {
+            ContinuationName::ContinuationDeclarationInside
+        } else {
+            ContinuationName::Continuation
+        },
+        Kind::Declaration => if b == b'>' {
+            ContinuationName::ContinuationClose
+        } else {
+            ContinuationName::Continuation
+        },
+        Kind::Cdata => if b == b']' {
+            ContinuationName::ContinuationCdataInside
+        } else {
+            ContinuationName::Continuation
+        },
+        Kind::Raw => ContinuationName::Continuation,
+        Kind::Basic => ContinuationName::Continuation,
+        Kind::Complete => ContinuationName::Continuation,
+    }
+}
+
+// In a comment, after one `-`.
+//
+//     <!--xxx-->
+//             ^
+fn continuation_comment_inside(kind: Kind, b: u8) -> ContinuationName
+    ensures { λ r. ⌜ r ≡ commentInsideOf kind b ⌝ }
+{
+    if b == b'-' {
+        ContinuationName::ContinuationDeclarationInside
+    } else {
+        continuation(kind, b)
+    }
+}
+
+// In CDATA, after one `]`.
+//
+//     <![CDATA[>&<]]>
+//                  ^
+fn continuation_cdata_inside(kind: Kind, b: u8) -> ContinuationName
+    ensures { λ r. ⌜ r ≡ cdataInsideOf kind b ⌝ }
+{
+    if b == b']' {
+        ContinuationName::ContinuationDeclarationInside
+    } else {
+        continuation(kind, b)
+    }
+}
+
+// Whether one more `-`, or `]`, leaves the closer possible. F1: a run of `]` counts from its start again.
+fn stays_before_end(rules: Rules, kind: Kind, b: u8) -> bool
+    ensures { λ r. ⌜ r ≡ stays rules kind b ⌝ }
+{
+    match kind {
+        Kind::Comment => b == b'-',
+        Kind::Cdata => (b == b']') & !rules.f1,
+        Kind::Raw => false,
+        Kind::Instruction => false,
+        Kind::Declaration => false,
+        Kind::Basic => false,
+        Kind::Complete => false,
+    }
+}
+
+// Before the `>` of a closer.
+//
+//     <!--xxx-->
+//              ^
+//     <?xxx?>
+//           ^
+//     <![CDATA[>&<]]>
+//                   ^
+fn continuation_declaration_inside(rules: Rules, kind: Kind, b: u8) -> ContinuationName
+    ensures { λ r. ⌜ r ≡ declarationInsideOf rules kind b ⌝ }
+{
+    if stays_before_end(rules, kind, b) {
+        ContinuationName::ContinuationDeclarationInside
+    } else if b == b'>' {
+        ContinuationName::ContinuationClose
+    } else {
+        continuation(kind, b)
+    }
+}
+
+// After the closer: the rest of its line belongs to the block.
+//
+//     <!--xxx--> x
+//               ^
+fn continuation_close() -> ContinuationName
+    ensures { λ r. ⌜ r ≡ ContinuationClose ⌝ }
+{
+    ContinuationName::ContinuationClose
+}
+
+// The function that the name spells, on the byte.
+fn continuation_step(rules: Rules, kind: Kind, name: ContinuationName, b: u8) -> ContinuationName
+    ensures { λ r. ⌜ r ≡ nextOf rules kind name b ⌝ }
+{
+    match name {
+        ContinuationName::Continuation => continuation(kind, b),
+        ContinuationName::ContinuationCommentInside => continuation_comment_inside(kind, b),
+        ContinuationName::ContinuationCdataInside => continuation_cdata_inside(kind, b),
+        ContinuationName::ContinuationDeclarationInside => continuation_declaration_inside(
+            rules,
+            kind,
+            b,
+        ),
+        ContinuationName::ContinuationClose => continuation_close(),
+    }
+}
+
+// Whether a closer was met.
+fn is_close(name: ContinuationName) -> bool
+    ensures { λ r. ⌜ r ≡ isClose name ⌝ }
+{
+    match name {
+        ContinuationName::Continuation => false,
+        ContinuationName::ContinuationCommentInside => false,
+        ContinuationName::ContinuationCdataInside => false,
+        ContinuationName::ContinuationDeclarationInside => false,
+        ContinuationName::ContinuationClose => true,
+    }
+}
+
+// Whether a line of kinds 2 to 5 has the closer.
+fn meets_closer(rules: Rules, kind: Kind, line: &[u8]) -> bool
+    ensures { λ r. ⌜ r ≡ meetsOf rules kind Continuation (now (line .entry)) ⌝ }
+{
+    let mut name = ContinuationName::Continuation;
+    let mut i = 0;
+    while i < line.len() {
+        if is_close(name) {
+            return true;
+        }
+        name = continuation_step(rules, kind, name, line[i]);
+        i += 1;
+    }
+    is_close(name)
+}
+
+// In a raw end tag whose name begins at start and has its letters before at; so many more are allowed.
+//
+//     <script>xxx</script>
+//                  ^
+fn continuation_raw_end_tag(line: &[u8], start: usize, at: usize, allowed: usize) -> bool
+    requires { ⌜ start ≤ at ⌝ }
+    ensures { λ r. ⌜ r ≡ rawEndOf allowed (drop start (now (line .entry))) (at - start) ⌝ }
+{
+    if at >= line.len() {
+        return false;
+    }
+    let b = line[at];
+    if b == b'>' {
+        return is_raw_name(from_indices(line, start, at));
+    }
+    if is_letter(b) {
+        if allowed > 0 {
+            return continuation_raw_end_tag(line, start, at + 1, allowed - 1);
+        }
+    }
+    false
+}
+
+// After `<` in a raw block: whether a raw end tag stands there.
+//
+//     <script>xxx</script>
+//                 ^
+fn continuation_raw_tag_open(line: &[u8], at: usize) -> bool
+    requires { ⌜ at < length (now line) ⌝ }
+    ensures { λ r. ⌜ r ≡ isRawEnd (drop at (now (line .entry))) ⌝ }
+{
+    if line[at] != b'<' {
+        return false;
+    }
+    let slash = at + 1;
+    if slash >= line.len() {
+        return false;
+    }
+    if line[slash] != b'/' {
+        return false;
+    }
+    let name = slash + 1;
+    continuation_raw_end_tag(line, name, name, HTML_RAW_SIZE_MAX)
+}
+
+// Whether a line of a raw block has a raw end tag.
+fn meets_raw_end_tag(line: &[u8]) -> bool
+    ensures { λ r. ⌜ r ≡ somewhere isRawEnd (now (line .entry)) ⌝ }
+{
+    let mut i = 0;
+    while i < line.len() {
+        if continuation_raw_tag_open(line, i) {
+            return true;
+        }
+        i += 1;
+    }
+    false
+}
+
+// Whether a line has the closer of its block.
+pub(crate) fn closes_line(rules: Rules, kind: Kind, line: &[u8]) -> bool
+    ensures { λ r. ⌜ r ≡ closes rules (kindNumber kind) (now (line .entry)) ⌝ }
+{
+    match kind {
+        Kind::Raw => meets_raw_end_tag(line),
+        Kind::Comment => meets_closer(rules, kind, line),
+        Kind::Instruction => meets_closer(rules, kind, line),
+        Kind::Declaration => meets_closer(rules, kind, line),
+        Kind::Cdata => meets_closer(rules, kind, line),
+        Kind::Basic => false,
+        Kind::Complete => false,
     }
 }

@@ -8,3 +8,4 @@ pub mod Bounds
 pub mod Table
 pub mod Same
 pub mod Names
+pub mod RawNames

@@ -10,7 +10,7 @@ space-or-tab-end-requires : tie.Need-space-or-tab-end-requires
 space-or-tab-end-requires c κs = search needs
 
 returns : tie.Need-returns
-returns c = 
+returns c =
     let args = c .before .before .before .args in
     sym (blank-at (args .bytes .now) (args .index)
     ∙ ap (λ j. atLineEnd (drop j (args .bytes .now))) (sym (c .before .space-or-tab-end .ensures))
@@ -23,7 +23,7 @@ is-line-ending-byte-requires : tie.Need-is-line-ending-byte-requires
 is-line-ending-byte-requires c κs = search needs
 
 returns-2 : tie.Need-returns-2
-returns-2 c = 
+returns-2 c =
     let args = c .before .before .before .before .before .args in
     c .is-line-ending-byte .ensures
     ∙ sym (blank-at (args .bytes .now) (args .index)

@@ -1,0 +1,50 @@
+use mathlib.Core.Path.{_≡_, refl, sym, _∙_}
+use Prim.Native.Nat.{_-_}
+use lib.ListN.{length, drop}
+use Rattle.rules.specs.Search.{somewhere}
+use Rattle.rules.specs.Block.{isRawEnd}
+use Rattle.rules.proofs.Past.{somewhere-in, somewhere-out}
+use borrow.Author.Needs.{needs}
+use Rattle.flow.proofs.html_flow.meets_raw_end_tag.Statement.{statement}
+use Rattle.flow.proofs.html_flow.meets_raw_end_tag.Tie as tie
+
+abbrev Inv-loop : tie.InvT-loop
+Inv-loop line i₀ i = somewhere isRawEnd (drop i line) ≡ somewhere isRawEnd line
+
+abbrev μ-loop : tie.MeasureT-loop
+μ-loop line i₀ i = length line - i
+
+loop-holds : tie.Need-loop-holds Inv-loop μ-loop
+loop-holds c = refl
+
+continuation-raw-tag-open-requires : tie.Need-continuation-raw-tag-open-requires Inv-loop μ-loop
+continuation-raw-tag-open-requires c κs = search needs
+
+returns : tie.Need-returns Inv-loop μ-loop
+returns c = let l = c .before .before in sym (somewhere-in isRawEnd _ _ (l .loop-test .taken) ∙ rw (← c .before .continuation-raw-tag-open .ensures, c .if1 .taken)) ∙ l .before .loop .inv
+
+add-i : tie.Need-add-i Inv-loop μ-loop
+add-i c = search needs
+
+loop-less : tie.Need-loop-less Inv-loop μ-loop
+loop-less c = search needs
+
+loop-again : tie.Need-loop-again Inv-loop μ-loop
+loop-again c = let l = c .before .before in sym (somewhere-in isRawEnd _ _ (l .loop-test .taken) ∙ rw (← c .before .continuation-raw-tag-open .ensures, c .if1 .left)) ∙ l .before .loop .inv
+
+returns-2 : tie.Need-returns-2 Inv-loop μ-loop
+returns-2 c = sym (somewhere-out isRawEnd _ _ (c .loop-test .left)) ∙ c .before .loop .inv
+
+pub meets-raw-end-tag-spec : {M : Type 1} → statement M
+meets-raw-end-tag-spec =
+    tie.close
+    (tie.spec
+    Inv-loop
+    μ-loop
+    loop-holds
+    continuation-raw-tag-open-requires
+    returns
+    add-i
+    loop-less
+    loop-again
+    returns-2)

@@ -1,0 +1,50 @@
+-- Raw names, letter case ignored, are letters, at most eight: one computed test over the list, and what it says of a name that is a member.
+use mathlib.Core.Path.{_≡_, refl, sym, _∙_, ap}
+use mathlib.Core.Bool.{Bool, true, false, _&&_, _||_}
+use mathlib.Core.List.{List, [], _∷_, map}
+use Prim.Native.Nat.{ℕ, _≤_}
+use lib.Dec.{leb}
+use lib.ListN.{length, length-map}
+use borrow.Author.Tests.{leb-true}
+use Rattle.lexical.specs.Text.{byte}
+use Rattle.lexical.specs.Byte.{within, isLetter, lower}
+use Rattle.lexical.specs.Name.{all, rawNames, sameBytes, isMember, isRawName}
+use Rattle.lexical.proofs.Cases.{split, clash, and-left, and-right}
+use Rattle.lexical.proofs.Same.{same-equal}
+
+-- what every name of a list passes, a member passes
+pub member-all : (f : List ℕ → Bool) (n : List ℕ) (names : List (List ℕ)) → isMember n names ≡ true → all f names ≡ true → f n ≡ true
+unfolding isMember all
+member-all f n [] h a = clash false h refl
+member-all f n (x ∷ xs) h a =
+    split (sameBytes n x)
+    (λ e. ap f (same-equal n x e) ∙ and-left (f x) (all f xs) a)
+    (λ e. member-all f n xs (rw e at h) (and-right (f x) (all f xs) a))
+
+-- letters, at most eight
+abbrev isShort : List ℕ → Bool
+isShort n = all isLetter n && leb (length n) 8
+
+short : all isShort rawNames ≡ true
+unfolding all rawNames
+short = refl
+
+lower-short : (n : List ℕ) → isRawName n ≡ true → isShort (map lower n) ≡ true
+unfolding isRawName
+lower-short n h = member-all isShort (map lower n) rawNames h short
+
+letter-of : (x : ℕ) → isLetter (lower x) ≡ true → isLetter x ≡ true
+letter-of x h = split (within (byte "A") (byte "Z") x) (λ a. simp a) (λ a. simp a (simp a at h))
+
+letters-of : (n : List ℕ) → all isLetter (map lower n) ≡ true → all isLetter n ≡ true
+unfolding all
+letters-of [] h = refl
+letters-of (x ∷ xs) h =
+    rw (letter-of x (and-left (isLetter (lower x)) (all isLetter (map lower xs)) h)) (letters-of xs (and-right (isLetter (lower x)) (all isLetter (map lower xs)) h))
+
+pub raw-letters : (n : List ℕ) → isRawName n ≡ true → all isLetter n ≡ true
+raw-letters n h = letters-of n (and-left (all isLetter (map lower n)) (leb (length (map lower n)) 8) (lower-short n h))
+
+pub raw-length : (n : List ℕ) → isRawName n ≡ true → length n ≤ 8
+raw-length n h =
+    rw (length-map n lower) at (leb-true (length (map lower n)) 8 (and-right (all isLetter (map lower n)) (leb (length (map lower n)) 8) (lower-short n h)))
