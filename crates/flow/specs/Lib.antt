@@ -1,3 +1,4 @@
 pub mod Answer
 pub mod CompleteMachine
+pub mod OpenMachine
 pub mod ContinuationMachine

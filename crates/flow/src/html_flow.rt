@@ -8,16 +8,32 @@ ghost use Rattle.rules.specs.Block.{isRawEnd, closes};
 ghost use Rattle.flow.specs.Answer.{kindNumber};
 ghost use Rattle.flow.specs.ContinuationMachine.{continuationOf, commentInsideOf, cdataInsideOf, stays, declarationInsideOf, nextOf, isClose, meetsOf, rawEndOf};
 ghost use Rattle.flow.specs.declared.html_flow.ContinuationName.the-variants.{Continuation, ContinuationClose};
+ghost use Prim.Native.Nat.{_+_};
+ghost use Rattle.lexical.specs.Text.{run};
+ghost use Rattle.lexical.specs.Byte.{isTagNameByte};
+ghost use mathlib.Core.List.{[]};
+ghost use Rattle.lexical.specs.Name.{cdataPrefix};
+ghost use Rattle.rules.specs.Search.{begins};
+ghost use Rattle.rules.specs.Lines.{line as lineOf};
+ghost use Rattle.rules.specs.Block.{nameOf as tagNameIn, afterName, mayStart, kindAt, kindOf};
+ghost use Rattle.flow.specs.Answer.{openingNumber};
+ghost use Rattle.flow.specs.OpenMachine.{isNameBreak, selfClosingOf, completeOf, tagNameOf, tagCloseStartOf, commentOpenOf, declarationOpenOf, openOf};
+use crate::partial_space_or_tab::inside;
 use crate::tokenizer::State;
 use crate::tokenizer::StateName;
+use crate::tokenizer::run as run_complete;
 use lexical::byte::is_attribute_name_byte;
 use lexical::byte::is_letter;
 use lexical::byte::is_line_ending_byte;
 use lexical::byte::is_quote;
 use lexical::byte::is_space_or_tab;
+use lexical::byte::is_tag_name_byte;
 use lexical::byte::is_value_excluded;
 use lexical::byte::is_whitespace;
+use lexical::byte::peek;
 use lexical::constant::HTML_RAW_SIZE_MAX;
+use lexical::constant::is_block_name;
+use lexical::constant::is_cdata_prefix_byte;
 use lexical::constant::is_raw_name;
 use lexical::slice::from_indices;
 use rules::Rules;
@@ -453,4 +469,244 @@ pub(crate) fn closes_line(rules: Rules, kind: Kind, line: &[u8]) -> bool
         Kind::Basic => false,
         Kind::Complete => false,
     }
+}
+
+// Past the tag name that begins at an index.
+fn name_end(line: &[u8], at: usize) -> usize
+    ensures { λ r. ⌜ r ≡ at + run isTagNameByte (drop at (now (line .entry))) ⌝ }
+{
+    let mut i = at;
+    while i < line.len() {
+        if is_tag_name_byte(line[i]) {
+            i += 1;
+        } else {
+            return i;
+        }
+    }
+    i
+}
+
+// Whether the line's flag lets kind 7 start. F6: interrupt refuses it exactly when not lazy.
+fn may_start(rules: Rules, flag: u8) -> bool
+    ensures { λ r. ⌜ r ≡ mayStart rules flag ⌝ }
+{
+    !((flag == 2) | (flag == 3)) | (rules.f6 & ((flag == 1) | (flag == 3)))
+}
+
+// After a tag's name that is neither raw nor a block name: a complete tag that fills the line. F3: raw names before a direct `/` too.
+fn complete(rules: Rules, line: &[u8], at: usize, closing: bool, raw: bool, flag: u8) -> Opening
+    ensures { λ r. ⌜ openingNumber r ≡ completeOf rules flag closing raw (drop at (now (line .entry))) ⌝ }
+{
+    if !may_start(rules, flag) {
+        return Opening::Shut;
+    }
+    if closing {
+        if run_complete(rules, line, at, StateName::CompleteClosingTagAfter) {
+            return Opening::Opens(Kind::Complete);
+        }
+        return Opening::Shut;
+    }
+    if rules.f3 | !raw {
+        if run_complete(
+            rules,
+            line,
+            at,
+            StateName::CompleteAttributeValueQuotedAfter,
+        ) {
+            return Opening::Opens(Kind::Complete);
+        }
+    }
+    Opening::Shut
+}
+
+// After a block name and `/`: only `>` goes on.
+//
+//     <div/>
+//          ^
+fn basic_self_closing(line: &[u8], at: usize) -> Opening
+    ensures { λ r. ⌜ openingNumber r ≡ selfClosingOf (drop at (now (line .entry))) ⌝ }
+{
+    if at >= line.len() {
+        return Opening::Shut;
+    }
+    if line[at] != b'/' {
+        return Opening::Shut;
+    }
+    if peek(line, at + 1) == 62 {
+        return Opening::Opens(Kind::Basic);
+    }
+    Opening::Shut
+}
+
+// What may follow a tag name.
+fn is_name_break(line: &[u8], at: usize) -> bool
+    ensures { λ r. ⌜ r ≡ isNameBreak (drop at (now (line .entry))) ⌝ }
+{
+    if at >= line.len() {
+        return true;
+    }
+    let b = line[at];
+    ((b == b'\n') | (b == b'\r')) | (((b == b' ') | (b == b'\t')) | ((b == b'/') | (b == b'>')))
+}
+
+// In a tag's name, which begins at an index: what the name opens.
+//
+//     <ab>
+//      ^^
+fn tag_name(rules: Rules, line: &[u8], at: usize, closing: bool, flag: u8) -> Opening
+    ensures { λ r. ⌜ openingNumber r ≡ tagNameOf rules flag closing (tagNameIn (drop at (now (line .entry)))) (afterName (drop at (now (line .entry)))) ⌝ }
+{
+    let end = name_end(line, at);
+    if !is_name_break(line, end) {
+        return Opening::Shut;
+    }
+    let name = from_indices(line, at, end);
+    let raw = is_raw_name(name);
+    let slash = peek(line, end) == 47;
+    if raw & (!closing & !slash) {
+        return Opening::Opens(Kind::Raw);
+    }
+    if is_block_name(name) {
+        if slash {
+            return basic_self_closing(line, end);
+        }
+        return Opening::Opens(Kind::Basic);
+    }
+    complete(rules, line, end, closing, raw, flag)
+}
+
+// After `</`: a closing tag's name.
+//
+//     </x>
+//       ^
+fn tag_close_start(rules: Rules, line: &[u8], at: usize, flag: u8) -> Opening
+    ensures { λ r. ⌜ openingNumber r ≡ tagCloseStartOf rules flag (drop at (now (line .entry))) ⌝ }
+{
+    if at >= line.len() {
+        return Opening::Shut;
+    }
+    if is_letter(line[at]) {
+        return tag_name(rules, line, at, true, flag);
+    }
+    Opening::Shut
+}
+
+// After `<![`: whether the rest of `CDATA[` follows.
+//
+//     <![CDATA[>&<]]>
+//        ^^^^^^
+fn cdata_open_inside(line: &[u8], at: usize) -> bool
+    requires { ⌜ at ≤ length (now line) ⌝ }
+    ensures { λ r. ⌜ r ≡ begins cdataPrefix (drop at (now (line .entry))) ⌝ }
+{
+    let mut size = 0;
+    while size < 6 {
+        let index = at + size;
+        if index >= line.len() {
+            return false;
+        }
+        if !is_cdata_prefix_byte(size, line[index]) {
+            return false;
+        }
+        size += 1;
+    }
+    true
+}
+
+// After `<!-`: another `-`.
+//
+//     <!--xxx-->
+//        ^
+fn comment_open_inside(line: &[u8], at: usize) -> Opening
+    ensures { λ r. ⌜ openingNumber r ≡ commentOpenOf (drop at (now (line .entry))) ⌝ }
+{
+    if peek(line, at) == 45 {
+        return Opening::Opens(Kind::Comment);
+    }
+    Opening::Shut
+}
+
+// After `<!`: a comment, a declaration or CDATA.
+//
+//     <!doctype>
+//       ^
+fn declaration_open(line: &[u8], at: usize) -> Opening
+    ensures { λ r. ⌜ openingNumber r ≡ declarationOpenOf (drop at (now (line .entry))) ⌝ }
+{
+    if at >= line.len() {
+        return Opening::Shut;
+    }
+    let b = line[at];
+    if b == b'-' {
+        return comment_open_inside(line, at + 1);
+    }
+    if is_letter(b) {
+        return Opening::Opens(Kind::Declaration);
+    }
+    if b == b'[' {
+        if cdata_open_inside(line, at + 1) {
+            return Opening::Opens(Kind::Cdata);
+        }
+    }
+    Opening::Shut
+}
+
+// After `<`: a tag name, or what opens something else.
+//
+//     <x>
+//      ^
+//     <!doctype>
+//      ^
+//     <!--xxx-->
+//      ^
+fn open(rules: Rules, line: &[u8], at: usize, flag: u8) -> Opening
+    ensures { λ r. ⌜ openingNumber r ≡ openOf rules flag (drop at (now (line .entry))) ⌝ }
+{
+    if at >= line.len() {
+        return Opening::Shut;
+    }
+    let b = line[at];
+    if b == b'!' {
+        return declaration_open(line, at + 1);
+    }
+    if b == b'/' {
+        return tag_close_start(rules, line, at + 1, flag);
+    }
+    if b == b'?' {
+        return Opening::Opens(Kind::Instruction);
+    }
+    if is_letter(b) {
+        return tag_name(rules, line, at, false, flag);
+    }
+    Opening::Shut
+}
+
+// After the indentation: `<`.
+//
+//       <x>
+//       ^
+fn before(rules: Rules, line: &[u8], at: usize, flag: u8) -> Opening
+    ensures { λ r. ⌜ openingNumber r ≡ kindAt rules flag (drop at (now (line .entry))) ⌝ }
+{
+    if at >= line.len() {
+        return Opening::Shut;
+    }
+    if line[at] != b'<' {
+        return Opening::Shut;
+    }
+    open(rules, line, at + 1, flag)
+}
+
+// Start of a line: the kind of block that it opens.
+//
+//       <x>
+//     ^
+pub(crate) fn start(rules: Rules, line: &[u8], flag: u8) -> Opening
+    ensures { λ r. ⌜ openingNumber r ≡ kindOf rules (lineOf flag [] (now (line .entry))) ⌝ }
+{
+    let indent = inside(line);
+    if indent > 3 {
+        return Opening::Shut;
+    }
+    before(rules, line, indent, flag)
 }

@@ -1,4 +1,5 @@
 // The block scanner: html_flow.rs and what it leans on.
 pub mod html_flow;
+mod partial_space_or_tab;
 pub mod scan;
 pub mod tokenizer;

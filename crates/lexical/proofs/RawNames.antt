@@ -6,9 +6,9 @@ use Prim.Native.Nat.{ℕ, _≤_}
 use lib.Dec.{leb}
 use lib.ListN.{length, length-map}
 use borrow.Author.Tests.{leb-true}
-use Rattle.lexical.specs.Text.{byte}
+use Rattle.lexical.specs.Text.{byte, first}
 use Rattle.lexical.specs.Byte.{within, isLetter, lower}
-use Rattle.lexical.specs.Name.{all, rawNames, sameBytes, isMember, isRawName}
+use Rattle.lexical.specs.Name.{all, blockNames, rawNames, sameBytes, isMember, isBlockName, isRawName}
 use Rattle.lexical.proofs.Cases.{split, clash, and-left, and-right}
 use Rattle.lexical.proofs.Same.{same-equal}
 
@@ -48,3 +48,19 @@ raw-letters n h = letters-of n (and-left (all isLetter (map lower n)) (leb (leng
 pub raw-length : (n : List ℕ) → isRawName n ≡ true → length n ≤ 8
 raw-length n h =
     rw (length-map n lower) at (leb-true (length (map lower n)) 8 (and-right (all isLetter (map lower n)) (leb (length (map lower n)) 8) (lower-short n h)))
+
+-- names of both lists begin with a letter
+begins-letter : (n : List ℕ) → isLetter (first (map lower n)) ≡ true → isLetter (first n) ≡ true
+begins-letter [] h = h
+begins-letter (x ∷ xs) h = letter-of x h
+
+member-letter : (n : List ℕ) (names : List (List ℕ)) → all (λ m. isLetter (first m)) names ≡ true → isMember (map lower n) names ≡ true → isLetter (first n) ≡ true
+member-letter n names a h = begins-letter n (member-all (λ m. isLetter (first m)) (map lower n) names h a)
+
+pub raw-first : (n : List ℕ) → isRawName n ≡ true → isLetter (first n) ≡ true
+unfolding isRawName all rawNames
+raw-first n h = member-letter n rawNames refl h
+
+pub block-first : (n : List ℕ) → isBlockName n ≡ true → isLetter (first n) ≡ true
+unfolding isBlockName all blockNames
+block-first n h = member-letter n blockNames refl h

@@ -96,7 +96,7 @@ continuation-raw-end-tag-returns-2 : (t : ℕ) → continuation-raw-end-tag-lts.
   continuation-raw-end-tag-below t,
   continuation-raw-end-tag.Post,
 ) (continuation-raw-end-tag-at t) continuation-raw-end-tag.Post
-continuation-raw-end-tag-returns-2 t c = let a = c .before .before .before .before .before .before .args in 
+continuation-raw-end-tag-returns-2 t c = let a = c .before .before .before .before .before .before .args in
     c .is-raw-name .ensures
     ∙ ap isRawName (c .before .from-indices .ensures)
     ∙ sym (at-mark (a .line .now) (a .start) (a .at) (c .before .before .before .before .before .before .pre .1) (a .allowed) (c .before .before .before .before .if1 .left) (c .before .before .if2 .taken))
@@ -163,7 +163,7 @@ continuation-raw-end-tag-returns-3 : (t : ℕ) → continuation-raw-end-tag-lts.
   continuation-raw-end-tag-below t,
   continuation-raw-end-tag.Post,
 ) (continuation-raw-end-tag-at t) continuation-raw-end-tag.Post
-continuation-raw-end-tag-returns-3 t c = let a = c .before .before .before .before .before .before .before .before .args in 
+continuation-raw-end-tag-returns-3 t c = let a = c .before .before .before .before .before .before .before .before .args in
     c .continuation-raw-end-tag .ensures
     ∙ sym (at-letter (a .line .now) (a .start) (a .at) (c .before .before .before .before .before .before .before .before .pre .1) (a .allowed) (c .before .before .before .before .before .before .if1 .left) (c .before .before .before .before .if2 .left) (sym (c .before .before .before .is-letter .ensures) ∙ c .before .before .if3 .taken) (c .before .if4 .taken))
 

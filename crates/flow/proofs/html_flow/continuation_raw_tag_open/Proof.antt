@@ -35,7 +35,7 @@ continuation-raw-end-tag-requires : tie.Need-continuation-raw-end-tag-requires
 continuation-raw-end-tag-requires c κs = search needs
 
 returns-4 : tie.Need-returns-4
-returns-4 c = 
+returns-4 c =
     let a = c .before .before .before .before .before .before .before .args in
     let name : ℕ = a .at + 1 + 1 in
     let none : name - name ≡ 0 = omega arith in

@@ -1,0 +1,192 @@
+-- The openings at an index of a line.
+use mathlib.Core.Path.{_≡_, refl, sym, _∙_, ap}
+use mathlib.Core.Bool.{Bool, true, false, _&&_, _||_, not}
+use mathlib.Core.List.{List, [], _∷_}
+use Prim.Native.Nat.{ℕ, suc, _+_, _<_, _≤_}
+use native.Mathlib.Omega.{arith}
+use lib.Dec.{eqb, leb}
+use lib.ListN.{length, getD, drop}
+use borrow.Author.Tests.{eq-eqb, ne-eqb, lt-leb, le-leb}
+use Rattle.lexical.specs.Text.{byte, bytes, none, first}
+use Rattle.lexical.specs.Byte.{isLetter, isSpaceOrTab, isLineEndingByte, isWhitespace}
+use Rattle.lexical.specs.Name.{cdataPrefix}
+use Rattle.lexical.specs.Line.{atLineEnd}
+use Rattle.lexical.proofs.Cases.{split, excluded}
+use Rattle.lexical.proofs.Suffix.{suffix-in, suffix-out, first-in}
+use Rattle.rules.specs.Search.{choose, begins, past, exactly}
+use Rattle.rules.specs.Tag.{blockTags, attributes}
+use Rattle.rules.specs.Block.{nameOf, afterName, fillsLine, mayStart, kindAt, kindOf, indentation}
+use Rattle.rules.specs.Lines.{Line}
+use Rattle.rules.specs.declared.Rules.{Rules}
+use Rattle.flow.specs.CompleteMachine.{runOf}
+use Rattle.flow.specs.OpenMachine.{isNameBreak, selfClosingOf, completesOf, completeOf, tagNameOf, commentOpenOf, declarationOpenOf, tagCloseStartOf, openOf}
+use Rattle.flow.specs.declared.tokenizer.StateName.the-variants.{CompleteClosingTagAfter, CompleteAttributeValueQuotedAfter}
+use Rattle.flow.proofs.CompleteMeans.{open-is, close-is}
+use Rattle.flow.proofs.OpenMeans.{kind-is, not-opened, nothing-opened}
+
+and-yes : (a : Bool) → (a && true) ≡ a
+and-yes true = refl
+and-yes false = refl
+
+-- ---- complete tags
+module _ (ρ : Rules) (f : ℕ) (a : List ℕ) where
+  -- by two bits: kind 7 may start, and the tag completes
+  by-bits : (closing raw b : Bool) → mayStart ρ f ≡ true → completesOf ρ closing raw a ≡ b → completeOf ρ f closing raw a ≡ choose b (λ _. 7) (λ _. 0)
+  unfolding completeOf
+  by-bits closing raw b m e = ap (λ t. choose (t && completesOf ρ closing raw a) (λ _. 7) (λ _. 0)) m ∙ ap (λ t. choose t (λ _. 7) (λ _. 0)) e
+
+  pub may-not : (closing raw : Bool) → mayStart ρ f ≡ false → completeOf ρ f closing raw a ≡ 0
+  unfolding completeOf
+  may-not closing raw m = ap (λ t. choose (t && completesOf ρ closing raw a) (λ _. 7) (λ _. 0)) m
+
+  pub closing-tag : (raw b : Bool) → mayStart ρ f ≡ true → runOf ρ CompleteClosingTagAfter a ≡ b → completeOf ρ f true raw a ≡ choose b (λ _. 7) (λ _. 0)
+  closing-tag raw b m e = by-bits true raw b m (sym (close-is ρ a) ∙ e)
+
+  pub open-tag : (raw b : Bool) → mayStart ρ f ≡ true → (ρ .f3 || not raw) ≡ true → runOf ρ CompleteAttributeValueQuotedAfter a ≡ b → completeOf ρ f false raw a ≡ choose b (λ _. 7) (λ _. 0)
+  open-tag raw b m t e =
+      by-bits false raw b m
+      (ap (λ x. x && fillsLine (attributes (blockTags ρ) (suc (length a)) a)) t ∙ sym (open-is ρ (suc (length a)) a (omega arith)) ∙ e)
+
+  pub raw-tag : (raw : Bool) → mayStart ρ f ≡ true → (ρ .f3 || not raw) ≡ false → completeOf ρ f false raw a ≡ 0
+  raw-tag raw m t = by-bits false raw false m (ap (λ x. x && fillsLine (attributes (blockTags ρ) (suc (length a)) a)) t)
+
+-- ---- behind a name
+module _ (line : List ℕ) (i : ℕ) where
+  pub break-out : length line ≤ i → isNameBreak (drop i line) ≡ true
+  break-out h = rw (suffix-out line i h)
+
+  pub break-in : i < length line
+      → isNameBreak (drop i line)
+      ≡ (isLineEndingByte (getD line i 0) || (isSpaceOrTab (getD line i 0) || (eqb (getD line i 0) (byte "/") || eqb (getD line i 0) (byte ">"))))
+  break-in h = rw (suffix-in line i h, and-yes (eqb (getD line i 0) (byte "/")), and-yes (eqb (getD line i 0) (byte ">")))
+
+  pub self-out : length line ≤ i → selfClosingOf (drop i line) ≡ 0
+  unfolding selfClosingOf
+  self-out h = rw (suffix-out line i h)
+
+  pub self-other : i < length line → (getD line i 0 ≡ byte "/" → ⊥) → selfClosingOf (drop i line) ≡ 0
+  unfolding selfClosingOf
+  self-other h e = rw (suffix-in line i h, ne-eqb (getD line i 0) (byte "/") e)
+
+  mark-first : (s : List ℕ) → begins (bytes ">") s ≡ eqb (first s) (byte ">")
+  mark-first [] = refl
+  mark-first (x ∷ xs) = and-yes (eqb x (byte ">"))
+
+  pub self-in : i < length line → getD line i 0 ≡ byte "/" → selfClosingOf (drop i line) ≡ choose (eqb (first (drop (i + 1) line)) (byte ">")) (λ _. 6) (λ _. 0)
+  unfolding selfClosingOf
+  self-in h e = rw (suffix-in line i h, e) (ap (λ b. choose b (λ _. 6) (λ _. 0)) (mark-first (drop (i + 1) line)))
+
+-- one byte in front
+pub one-first : (p : ℕ) (s : List ℕ) → eqb none p ≡ false → begins (p ∷ []) s ≡ eqb (first s) p
+one-first p [] e = sym e
+one-first p (x ∷ xs) e = and-yes (eqb x p)
+
+pub comment-first : (s : List ℕ) → commentOpenOf s ≡ choose (eqb (first s) (byte "-")) (λ _. 2) (λ _. 0)
+unfolding commentOpenOf
+comment-first s = ap (λ b. choose b (λ _. 2) (λ _. 0)) (one-first (byte "-") s refl)
+
+-- ---- behind `<!`, `</` and `<`
+module _ (line : List ℕ) (i : ℕ) where
+  abbrev b : ℕ
+  b = getD line i 0
+
+  abbrev rest : List ℕ
+  rest = drop (i + 1) line
+
+  pub declaration-out : length line ≤ i → declarationOpenOf (drop i line) ≡ 0
+  unfolding declarationOpenOf
+  declaration-out h = rw (suffix-out line i h)
+
+  pub declaration-dash : i < length line → b ≡ byte "-" → declarationOpenOf (drop i line) ≡ commentOpenOf rest
+  unfolding declarationOpenOf commentOpenOf
+  declaration-dash h e = rw (suffix-in line i h, e)
+
+  pub declaration-letter : i < length line → isLetter b ≡ true → declarationOpenOf (drop i line) ≡ 4
+  unfolding declarationOpenOf
+  declaration-letter h l = rw (suffix-in line i h, excluded isLetter (byte "-") b refl l, l)
+
+  pub declaration-cdata : i < length line → b ≡ byte "[" → declarationOpenOf (drop i line) ≡ choose (begins cdataPrefix rest) (λ _. 5) (λ _. 0)
+  unfolding declarationOpenOf cdataPrefix
+  declaration-cdata h e = rw (suffix-in line i h, e)
+
+  pub declaration-other : i < length line → (b ≡ byte "-" → ⊥) → isLetter b ≡ false → (b ≡ byte "[" → ⊥) → declarationOpenOf (drop i line) ≡ 0
+  unfolding declarationOpenOf
+  declaration-other h e l g = rw (suffix-in line i h, ne-eqb b (byte "-") e, l, ne-eqb b (byte "[") g)
+
+  module _ (ρ : Rules) (f : ℕ) where
+    pub close-out : length line ≤ i → tagCloseStartOf ρ f (drop i line) ≡ 0
+    unfolding tagCloseStartOf
+    close-out h = rw (suffix-out line i h)
+
+    pub close-in : (t : Bool) → i < length line → isLetter b ≡ t
+        → tagCloseStartOf ρ f (drop i line) ≡ choose t (λ _. tagNameOf ρ f true (nameOf (drop i line)) (afterName (drop i line))) (λ _. 0)
+    unfolding tagCloseStartOf
+    close-in t h e = ap (λ x. choose x (λ _. tagNameOf ρ f true (nameOf (drop i line)) (afterName (drop i line))) (λ _. 0)) (ap isLetter (first-in line i h) ∙ e)
+
+    pub open-out : length line ≤ i → openOf ρ f (drop i line) ≡ 0
+    unfolding openOf
+    open-out h = rw (suffix-out line i h)
+
+    pub open-mark : i < length line → b ≡ byte "!" → openOf ρ f (drop i line) ≡ declarationOpenOf rest
+    unfolding openOf
+    open-mark h e = rw (suffix-in line i h, e)
+
+    pub open-slash : i < length line → b ≡ byte "/" → openOf ρ f (drop i line) ≡ tagCloseStartOf ρ f rest
+    unfolding openOf
+    open-slash h e = rw (suffix-in line i h, e)
+
+    pub open-question : i < length line → b ≡ byte "?" → openOf ρ f (drop i line) ≡ 3
+    unfolding openOf
+    open-question h e = rw (suffix-in line i h, e)
+
+    -- a byte that is none of these
+    pub open-name : (t : Bool) → i < length line → (b ≡ byte "!" → ⊥) → (b ≡ byte "/" → ⊥) → (b ≡ byte "?" → ⊥) → isLetter b ≡ t
+        → openOf ρ f (drop i line) ≡ choose t (λ _. tagNameOf ρ f false (nameOf (drop i line)) (afterName (drop i line))) (λ _. 0)
+    unfolding openOf
+    open-name t h x y z e = rw (suffix-in line i h, ne-eqb b (byte "!") x, ne-eqb b (byte "/") y, ne-eqb b (byte "?") z, e)
+
+    pub before-out : length line ≤ i → kindAt ρ f (drop i line) ≡ 0
+    before-out h = ap (kindAt ρ f) (suffix-out line i h) ∙ nothing-opened ρ f
+
+    pub before-other : i < length line → (b ≡ byte "<" → ⊥) → kindAt ρ f (drop i line) ≡ 0
+    before-other h e = ap (kindAt ρ f) (suffix-in line i h) ∙ not-opened ρ f b rest (ne-eqb b (byte "<") e)
+
+    pub before-in : i < length line → b ≡ byte "<" → kindAt ρ f (drop i line) ≡ openOf ρ f rest
+    before-in h e = ap (kindAt ρ f) (suffix-in line i h ∙ ap (λ x. x ∷ rest) e) ∙ kind-is ρ f rest
+
+-- ---- the indentation
+module _ (ρ : Rules) (l : Line) where
+  abbrev indent : ℕ
+  indent = indentation (l .content)
+
+  by-depth : (t : Bool) → leb indent 3 ≡ t → kindOf ρ l ≡ choose t (λ _. kindAt ρ (l .flag) (drop indent (l .content))) (λ _. 0)
+  unfolding kindOf
+  by-depth t e = ap (λ x. choose x (λ _. kindAt ρ (l .flag) (drop indent (l .content))) (λ _. 0)) e
+
+  pub too-deep : 3 < indent → kindOf ρ l ≡ 0
+  too-deep h = by-depth false (lt-leb indent 3 h)
+
+  pub not-deep : indent ≤ 3 → kindOf ρ l ≡ kindAt ρ (l .flag) (drop indent (l .content))
+  not-deep h = by-depth true (le-leb indent 3 h)
+
+-- ---- the CDATA prefix from a size on
+module _ (line : List ℕ) (at k : ℕ) where
+  abbrev pub prefixFrom : Bool
+  prefixFrom = begins (drop k cdataPrefix) (drop (at + k) line)
+
+  prefix-length : length cdataPrefix ≡ 6
+  unfolding cdataPrefix
+  prefix-length = refl
+
+  pub prefix-turn : k < 6 → at + k < length line → (t : Bool) → t ≡ eqb (getD line (at + k) 0) (first (drop k cdataPrefix))
+      → prefixFrom ≡ (t && begins (drop (k + 1) cdataPrefix) (drop (at + (k + 1)) line))
+  prefix-turn h l t e =
+      let m : k < length cdataPrefix = omega (arith, prefix-length) in
+      let n : at + k + 1 ≡ at + (k + 1) = omega arith in
+      rw (e, first-in cdataPrefix k m, suffix-in cdataPrefix k m, suffix-in line (at + k) l, n)
+
+  pub prefix-short : k < 6 → length line ≤ at + k → prefixFrom ≡ false
+  prefix-short h l = let m : k < length cdataPrefix = omega (arith, prefix-length) in rw (suffix-in cdataPrefix k m, suffix-out line (at + k) l)
+
+  pub prefix-end : 6 ≤ k → prefixFrom ≡ true
+  prefix-end h = rw (suffix-out cdataPrefix k (omega (arith, prefix-length)))

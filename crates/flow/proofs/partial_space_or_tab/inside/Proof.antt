@@ -1,0 +1,53 @@
+use mathlib.Core.Path.{_≡_, refl, sym, _∙_}
+use mathlib.Core.Bool.{Bool}
+use Prim.Native.Nat.{ℕ, _-_}
+use native.Mathlib.Omega.{arith}
+use lib.Dec.{eqb}
+use lib.ListN.{length}
+use borrow.Author.Tests.{eq-eqb, ne-eqb}
+use Rattle.lexical.specs.Text.{byte, run}
+use Rattle.lexical.proofs.Run.{runEnd, run-on, run-stop, run-over}
+use borrow.Author.Needs.{needs}
+use Rattle.flow.proofs.partial_space_or_tab.inside.Statement.{statement}
+use Rattle.flow.proofs.partial_space_or_tab.inside.Tie as tie
+
+abbrev Inv-loop : tie.InvT-loop
+Inv-loop line i₀ i = runEnd (λ b. eqb b (byte " ")) line i ≡ run (λ b. eqb b (byte " ")) line
+
+abbrev μ-loop : tie.MeasureT-loop
+μ-loop line i₀ i = length line - i
+
+loop-holds : tie.Need-loop-holds Inv-loop μ-loop
+loop-holds c = omega arith
+
+shared-slice-read-if1 : tie.Need-shared-slice-read-if1 Inv-loop μ-loop
+shared-slice-read-if1 c = search needs
+
+returns : tie.Need-returns Inv-loop μ-loop
+returns c = sym (run-stop (λ b. eqb b (byte " ")) _ _ (c .before .before .loop-test .taken) (ne-eqb _ _ (c .if1 .taken))) ∙ c .before .before .before .loop .inv
+
+add-i : tie.Need-add-i Inv-loop μ-loop
+add-i c = search needs
+
+loop-less : tie.Need-loop-less Inv-loop μ-loop
+loop-less c = search needs
+
+loop-again : tie.Need-loop-again Inv-loop μ-loop
+loop-again c = run-on (λ b. eqb b (byte " ")) _ _ (c .before .before .loop-test .taken) (eq-eqb _ _ (c .if1 .left)) ∙ c .before .before .before .loop .inv
+
+returns-2 : tie.Need-returns-2 Inv-loop μ-loop
+returns-2 c = sym (run-over (λ b. eqb b (byte " ")) _ _ (c .loop-test .left)) ∙ c .before .loop .inv
+
+pub inside-spec : {M : Type 1} → statement M
+inside-spec =
+    tie.close
+    (tie.spec
+    Inv-loop
+    μ-loop
+    loop-holds
+    shared-slice-read-if1
+    returns
+    add-i
+    loop-less
+    loop-again
+    returns-2)
