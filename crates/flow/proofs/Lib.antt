@@ -6,3 +6,4 @@ pub mod ContinuationMeans
 pub mod OpenMeans
 pub mod OpenSteps
 pub mod NameSteps
+pub mod BlockSteps

@@ -2,3 +2,4 @@ pub mod Answer
 pub mod CompleteMachine
 pub mod OpenMachine
 pub mod ContinuationMachine
+pub mod BlockMachine

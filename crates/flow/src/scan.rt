@@ -1,5 +1,38 @@
-// The block scan.
+// The block scan: what is read and given, and what is refused.
+ghost use mathlib.Core.Path.{_≡_};
+ghost use mathlib.Core.List.{[]};
+ghost use Prim.Native.Nat.{_+_};
+ghost use lib.Dec.{leb};
+ghost use lib.ListN.{drop, getD};
+ghost use Rattle.lexical.specs.Name.{all};
+ghost use Rattle.rules.specs.Reading.{crate as ofCrate};
+ghost use Rattle.rules.specs.Lines.{linesOf, line as lineOf};
+ghost use Rattle.rules.specs.Block.{endsBefore};
+ghost use Rattle.rules.specs.Scan.{blockOf, blockScan};
+ghost use Rattle.flow.specs.Answer.{kindNumber, blockAnswerOf};
+ghost use Rattle.flow.specs.BlockMachine.{continuationStartOf};
 use crate::html_flow::Kind;
+use crate::html_flow::Opening;
+use crate::html_flow::closes_line;
+use crate::html_flow::start;
+use crate::partial_non_lazy_continuation::is_lazy;
+use lexical::constant::is_over_limit;
+use lexical::line::count_lines;
+use lexical::line::is_blank;
+use lexical::line::is_line_start;
+use lexical::line::line_end;
+use lexical::line::line_ending;
+use lexical::slice::from_indices;
+use rules::Rules;
+
+// 01, Where each refusal is met.
+const TOO_LONG: u8 = 1;
+
+const WRONG_COUNT: u8 = 2;
+
+const WRONG_FLAG: u8 = 3;
+
+const WRONG_INDEX: u8 = 4;
 
 // The answer of a block scan.
 pub enum Block {
@@ -12,4 +45,170 @@ pub enum Block {
     Refused {
         refusal: u8,
     },
+}
+
+// The flag of a line. Past the end: 0.
+fn flag_at(flags: &[u8], number: usize) -> u8
+    ensures { λ r. ⌜ r ≡ getD (drop number (now (flags .entry))) 0 0 ⌝ }
+{
+    if number < flags.len() {
+        return flags[number];
+    }
+    0
+}
+
+// The next line with a flag. Past the end all numbers are alike.
+fn next_number(flags: &[u8], number: usize) -> usize
+    ensures { λ r. ⌜ drop r (now (flags .entry)) ≡ drop 1 (drop number (now (flags .entry))) ⌝ }
+{
+    if number < flags.len() {
+        return number + 1;
+    }
+    number
+}
+
+// Whether all flags are 0 to 3.
+fn are_flags(flags: &[u8]) -> bool
+    ensures { λ r. ⌜ r ≡ all (λ f. leb f 3) (now (flags .entry)) ⌝ }
+{
+    let mut i = 0;
+    while i < flags.len() {
+        if flags[i] > 3 {
+            return false;
+        }
+        i += 1;
+    }
+    true
+}
+
+// Whether a blank line ends a block: kinds 6 and 7.
+fn ends_at_blank(kind: Kind) -> bool
+    ensures { λ r. ⌜ r ≡ leb 6 (kindNumber kind) ⌝ }
+{
+    match kind {
+        Kind::Raw => false,
+        Kind::Comment => false,
+        Kind::Instruction => false,
+        Kind::Declaration => false,
+        Kind::Cdata => false,
+        Kind::Basic => true,
+        Kind::Complete => true,
+    }
+}
+
+// Whether a block ends in front of a line. A lazy line ends every kind.
+fn ends_before(kind: Kind, flag: u8, line: &[u8]) -> bool
+    ensures { λ r. ⌜ r ≡ endsBefore (kindNumber kind) (lineOf flag [] (now (line .entry))) ⌝ }
+{
+    is_lazy(flag) | (ends_at_blank(kind) & is_blank(line, 0))
+}
+
+// The lines behind those taken, whose content ends at an index: how far the block goes.
+//
+//     <!--
+//     asd
+//   > ^^^^
+fn continuation_start(
+    rules: Rules,
+    kind: Kind,
+    bulletin: &[u8],
+    flags: &[u8],
+    index: usize,
+    line: usize,
+) -> Block
+    ensures { λ r. ⌜ blockAnswerOf r ≡ continuationStartOf rules (kindNumber kind) (now (bulletin .entry)) (now (flags .entry)) index line ⌝ }
+{
+    let mut stop = index;
+    let mut number = line;
+    while stop < bulletin.len() {
+        let ending = line_ending(bulletin, stop);
+        if ending == 0 {
+            return Block::Found {
+                kind,
+                stop,
+                closed: false,
+            };
+        }
+        let from = stop + ending;
+        let to = line_end(bulletin, from);
+        let content = from_indices(bulletin, from, to);
+        if ends_before(kind, flag_at(flags, number), content) {
+            return Block::Found {
+                kind,
+                stop,
+                closed: false,
+            };
+        }
+        if closes_line(rules, kind, content) {
+            return Block::Found {
+                kind,
+                stop: to,
+                closed: true,
+            };
+        }
+        stop = to;
+        number = next_number(flags, number);
+    }
+    Block::Found {
+        kind,
+        stop,
+        closed: false,
+    }
+}
+
+// The block that the line at an index opens, in any reading, with the line's number. Past the end: none.
+pub fn block_at(rules: Rules, bulletin: &[u8], flags: &[u8], index: usize, line: usize) -> Block
+    ensures { λ r. ⌜ blockAnswerOf r ≡ blockOf rules index (linesOf (drop line (now (flags .entry))) (drop index (now (bulletin .entry)))) ⌝ }
+{
+    let stop = line_end(bulletin, index);
+    let content = from_indices(bulletin, index, stop);
+    match start(rules, content, flag_at(flags, line)) {
+        Opening::Shut => Block::Missing,
+        Opening::Opens(kind) => {
+            if closes_line(rules, kind, content) {
+                return Block::Found {
+                    kind,
+                    stop,
+                    closed: true,
+                };
+            }
+            continuation_start(rules, kind, bulletin, flags, stop, next_number(flags, line))
+        }
+    }
+}
+
+// The block scan with all eight changes.
+pub fn block_scan(bulletin: &[u8], flags: &[u8], index: usize) -> Block
+    ensures { λ r. ⌜ blockAnswerOf r ≡ blockScan ofCrate (now (bulletin .entry)) (now (flags .entry)) index ⌝ }
+{
+    if is_over_limit(bulletin) {
+        return Block::Refused { refusal: TOO_LONG };
+    }
+    if flags.len() != count_lines(bulletin) {
+        return Block::Refused {
+            refusal: WRONG_COUNT,
+        };
+    }
+    if !are_flags(flags) {
+        return Block::Refused {
+            refusal: WRONG_FLAG,
+        };
+    }
+    if !is_line_start(bulletin, index) {
+        return Block::Refused {
+            refusal: WRONG_INDEX,
+        };
+    }
+    let all = Rules {
+        f1: true,
+        f2: true,
+        f3: true,
+        f4: true,
+        f5: true,
+        f6: true,
+        t1: true,
+        t2: true,
+    };
+    let line = count_lines(from_indices(bulletin, 0, index)) - 1;
+    block_at(all, bulletin, flags, index, line)
 }

@@ -3,3 +3,4 @@ pub mod Changes
 pub mod Comment
 pub mod Past
 pub mod Refusals
+pub mod Cut

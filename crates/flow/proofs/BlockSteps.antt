@@ -1,0 +1,198 @@
+-- The lines of a block one by one: what the rules give, by the next line.
+use mathlib.Core.Path.{_≡_, refl, sym, _∙_, ap}
+use mathlib.Core.Bool.{Bool, true, false, _&&_, _||_, not}
+use mathlib.Core.List.{List, [], _∷_}
+use Prim.Native.Nat.{ℕ, zero, suc, _+_, _-_, _<_, _≤_}
+use native.Mathlib.Omega.{arith}
+use lib.Dec.{eqb}
+use lib.ListN.{length, getD, take, drop}
+use lib.Seq.{drop-drop}
+use Rattle.lexical.specs.Line.{lineEnding, lineLength}
+use Rattle.lexical.specs.Name.{all}
+use Rattle.lexical.proofs.Suffix.{suffix-in, suffix-out}
+use Rattle.rules.specs.Search.{choose}
+use Rattle.rules.specs.Lines.{Line, line, flagged, cutLines, linesOf}
+use Rattle.rules.specs.Block.{Extent, extent, oneMore, endsBefore, closes, goesOn, kindOf, extentOf, stopAfter}
+use Rattle.rules.specs.Scan.{BlockAnswer, foundBlock, noBlock, blockAnswer, blockOf}
+use Rattle.rules.specs.declared.Rules.{Rules}
+use Rattle.rules.proofs.Cut.{behind, behind-none, behind-one, cut-first, content-length, lead-length, from-within, lineFrom, lineTo}
+use Rattle.flow.specs.Answer.{kindNumber}
+use Rattle.flow.specs.declared.html_flow.Kind.{Kind}
+use Rattle.flow.specs.declared.html_flow.Kind.the-variants.{Raw, Comment, Instruction, Declaration, Cdata, Basic, Complete}
+use Rattle.flow.specs.BlockMachine.{stopFrom, wentOn, continuationStartOf}
+
+-- ---- flags
+no-flags : (ls : List Line) → flagged [] ls ≡ ls
+unfolding flagged
+no-flags [] = refl
+no-flags (l ∷ ls) = refl
+
+-- the first line has the first flag, or 0
+pub flag-first : (fs e c : List ℕ) (ls : List Line) → flagged fs (line 0 e c ∷ ls) ≡ line (getD fs 0 0) e c ∷ flagged (drop 1 fs) ls
+unfolding flagged
+flag-first [] e c ls = ap (λ t. line 0 e c ∷ t) (sym (no-flags ls))
+flag-first (f ∷ fs) e c ls = refl
+
+-- all flags from an index on
+module _ (f : ℕ → Bool) (s : List ℕ) (i : ℕ) where
+  pub all-in : (t : Bool) → i < length s → f (getD s i 0) ≡ t → all f (drop i s) ≡ (t && all f (drop (i + 1) s))
+  unfolding all
+  all-in t h e = rw (suffix-in s i h, e)
+
+  pub all-out : length s ≤ i → all f (drop i s) ≡ true
+  unfolding all
+  all-out h = rw (suffix-out s i h)
+
+-- ---- where n lines end
+pub stop-is : (n i : ℕ) (l : Line) (ls : List Line) → stopAfter i (suc n) (l ∷ ls) ≡ stopFrom (i + length (l .content)) n ls
+unfolding stopAfter stopFrom
+stop-is zero i l ls = refl
+stop-is (suc n) i l [] = refl
+stop-is (suc n) i l (m ∷ ls) = stop-is n (i + length (l .content) + length (m .lead)) m ls
+
+-- ---- the next line of an open block
+module _ (ρ : Rules) (k : ℕ) where
+  abbrev pub goingOn : ℕ → List Line → BlockAnswer
+  goingOn stop ls = wentOn k stop ls (goesOn ρ k ls)
+
+  pub none-left : (stop : ℕ) → goingOn stop [] ≡ foundBlock k stop false
+  unfolding goesOn stopFrom
+  none-left stop = refl
+
+  module _ (stop : ℕ) (l : Line) (ls : List Line) where
+    pub ended : endsBefore k l ≡ true → goingOn stop (l ∷ ls) ≡ foundBlock k stop false
+    unfolding goesOn stopFrom
+    ended h = rw h
+
+    pub closed-here : endsBefore k l ≡ false → closes ρ k (l .content) ≡ true → goingOn stop (l ∷ ls) ≡ foundBlock k (stop + length (l .lead) + length (l .content)) true
+    unfolding goesOn stopFrom
+    closed-here h c = rw (h, c)
+
+    pub one-on : endsBefore k l ≡ false → closes ρ k (l .content) ≡ false → goingOn stop (l ∷ ls) ≡ goingOn (stop + length (l .lead) + length (l .content)) ls
+    unfolding goesOn stopFrom
+    one-on h c = rw (h, c)
+
+-- ---- the same at an index of a text
+module _ (ρ : Rules) (k : ℕ) (s flags : List ℕ) (i n : ℕ) where
+  pub no-line : lineEnding (drop i s) ≡ 0 → continuationStartOf ρ k s flags i n ≡ foundBlock k i false
+  unfolding continuationStartOf flagged
+  no-line e = rw (behind-none s i e) (none-left ρ k i)
+
+  abbrev nextContent : List ℕ
+  nextContent = take (lineLength (drop (lineFrom s i) s)) (drop (lineFrom s i) s)
+
+  -- the next line as the code reads it: the size of its ending, where it ends, its flag and its bytes
+  module _ (ending to f : ℕ) (content : List ℕ)
+      (a : ending ≡ lineEnding (drop i s))
+      (b : to ≡ i + ending + lineLength (drop (i + ending) s))
+      (d : content ≡ take (to - (i + ending)) (drop (i + ending) s))
+      (g : f ≡ getD (drop n flags) 0 0)
+      (h : ending ≡ 0 → ⊥) where
+    abbrev lead : List ℕ
+    lead = take (lineEnding (drop i s)) (drop i s)
+
+    abbrev next : Line
+    next = line f lead content
+
+    abbrev rest : List Line
+    rest = flagged (drop 1 (drop n flags)) (behind (drop to s))
+
+    content-is : content ≡ nextContent
+    content-is =
+        let m : to - (i + ending) ≡ lineLength (drop (i + ending) s) = omega (arith, b) in
+        d ∙ ap (λ t. take t (drop (i + ending) s)) m ∙ ap (λ t. take (lineLength (drop (i + t) s)) (drop (i + t) s)) a
+
+    to-is : to ≡ lineTo s i
+    to-is = b ∙ ap (λ t. i + t + lineLength (drop (i + t) s)) a
+
+    next-line : flagged (drop n flags) (behind (drop i s)) ≡ next ∷ rest
+    next-line =
+        ap (flagged (drop n flags)) (behind-one s i (λ e. h (a ∙ e)))
+        ∙ flag-first (drop n flags) lead nextContent (behind (drop (lineTo s i) s))
+        ∙ ap (λ t. line t lead nextContent ∷ flagged (drop 1 (drop n flags)) (behind (drop (lineTo s i) s))) (sym g)
+        ∙ ap (λ t. line f lead t ∷ flagged (drop 1 (drop n flags)) (behind (drop (lineTo s i) s))) (sym content-is)
+        ∙ ap (λ t. next ∷ flagged (drop 1 (drop n flags)) (behind (drop t s))) (sym to-is)
+
+    next-stop : i + length lead + length content ≡ to
+    next-stop =
+        let m : length content ≡ length nextContent = ap length content-is in
+        omega (arith, m, to-is, lead-length s i, content-length (drop (lineFrom s i) s))
+
+    pub line-ends : endsBefore k (line f [] content) ≡ true → continuationStartOf ρ k s flags i n ≡ foundBlock k i false
+    unfolding continuationStartOf
+    line-ends e = ap (goingOn ρ k i) next-line ∙ ended ρ k i next rest e
+
+    pub line-closes : endsBefore k (line f [] content) ≡ false → closes ρ k content ≡ true → continuationStartOf ρ k s flags i n ≡ foundBlock k to true
+    unfolding continuationStartOf
+    line-closes e c = ap (goingOn ρ k i) next-line ∙ closed-here ρ k i next rest e c ∙ ap (λ t. foundBlock k t true) next-stop
+
+    pub line-on : endsBefore k (line f [] content) ≡ false → closes ρ k content ≡ false → (m : ℕ) → drop m flags ≡ drop 1 (drop n flags)
+        → continuationStartOf ρ k s flags i n ≡ continuationStartOf ρ k s flags to m
+    unfolding continuationStartOf
+    line-on e c m r =
+        ap (goingOn ρ k i) next-line ∙ one-on ρ k i next rest e c
+        ∙ ap (λ t. goingOn ρ k t rest) next-stop ∙ ap (λ t. goingOn ρ k to (flagged t (behind (drop to s)))) (sym r)
+
+-- the next line begins within the text
+pub next-within : (s : List ℕ) (i ending : ℕ) → i < length s → ending ≡ lineEnding (drop i s) → i + ending ≤ length s
+next-within s i ending h a = rw a (from-within s i (omega arith))
+
+-- ---- the first line, as the code reads it: where it ends, its flag and its bytes
+module _ (ρ : Rules) (s flags : List ℕ) (i n : ℕ) (to f : ℕ) (content : List ℕ)
+    (b : to ≡ i + lineLength (drop i s))
+    (d : content ≡ take (to - i) (drop i s))
+    (g : f ≡ getD (drop n flags) 0 0) where
+  abbrev firstLine : Line
+  firstLine = line f [] content
+
+  abbrev others : List Line
+  others = flagged (drop 1 (drop n flags)) (behind (drop to s))
+
+  abbrev pub blockAnswerAt : BlockAnswer
+  blockAnswerAt = blockOf ρ i (linesOf (drop n flags) (drop i s))
+
+  first-content : content ≡ take (lineLength (drop i s)) (drop i s)
+  first-content = let m : to - i ≡ lineLength (drop i s) = omega (arith, b) in d ∙ ap (λ t. take t (drop i s)) m
+
+  all-lines : linesOf (drop n flags) (drop i s) ≡ firstLine ∷ others
+  unfolding linesOf
+  all-lines =
+      ap (flagged (drop n flags)) (cut-first [] (drop i s))
+      ∙ flag-first (drop n flags) [] (take (lineLength (drop i s)) (drop i s)) (behind (drop (lineLength (drop i s)) (drop i s)))
+      ∙ ap (λ t. line t [] (take (lineLength (drop i s)) (drop i s)) ∷ flagged (drop 1 (drop n flags)) (behind (drop (lineLength (drop i s)) (drop i s)))) (sym g)
+      ∙ ap (λ t. line f [] t ∷ flagged (drop 1 (drop n flags)) (behind (drop (lineLength (drop i s)) (drop i s)))) (sym first-content)
+      ∙ ap (λ t. firstLine ∷ flagged (drop 1 (drop n flags)) (behind t)) (drop-drop (lineLength (drop i s)) i s ∙ ap (λ t. drop t s) (sym b))
+
+  stopped : i + length content ≡ to
+  stopped = let m : length content ≡ length (take (lineLength (drop i s)) (drop i s)) = ap length first-content in omega (arith, m, b, content-length (drop i s))
+
+  pub no-block : kindOf ρ (line f [] content) ≡ 0 → blockAnswerAt ≡ noBlock
+  unfolding blockOf
+  no-block e = ap (blockOf ρ i) all-lines ∙ rw e refl
+
+  module _ (k : ℕ) (e : kindOf ρ (line f [] content) ≡ k) (z : eqb k 0 ≡ false) where
+    opened : blockAnswerAt ≡ blockAnswer i (firstLine ∷ others) k (extentOf ρ k firstLine others)
+    unfolding blockOf
+    opened = ap (blockOf ρ i) all-lines ∙ rw (e, z) refl
+
+    pub first-closes : closes ρ k content ≡ true → blockAnswerAt ≡ foundBlock k to true
+    unfolding extentOf stopAfter
+    first-closes c = opened ∙ rw c (ap (λ t. foundBlock k t true) stopped)
+
+    pub first-on : closes ρ k content ≡ false → (m : ℕ) → drop m flags ≡ drop 1 (drop n flags) → blockAnswerAt ≡ continuationStartOf ρ k s flags to m
+    unfolding extentOf continuationStartOf
+    first-on c m r =
+        opened ∙ rw c
+        (ap (λ t. foundBlock k t (goesOn ρ k others .closed)) (stop-is (goesOn ρ k others .lines) i firstLine others)
+        ∙ ap (λ t. wentOn k t others (goesOn ρ k others)) stopped
+        ∙ ap (λ t. wentOn k to (flagged t (behind (drop to s))) (goesOn ρ k (flagged t (behind (drop to s))))) (sym r))
+
+-- every kind has a number
+pub has-number : (kind : Kind) → eqb (kindNumber kind) 0 ≡ false
+has-number Raw = refl
+has-number Comment = refl
+has-number Instruction = refl
+has-number Declaration = refl
+has-number Cdata = refl
+has-number Basic = refl
+has-number Complete = refl
