@@ -1,0 +1,16 @@
+pub mod Corresponding
+pub mod Alike
+pub mod Tags
+pub mod InlineReads
+pub mod Body
+pub mod Opening
+pub mod Steady
+pub mod Less
+pub mod Paragraph
+pub mod BodyLine
+pub mod Behind
+pub mod BodyRuns
+pub mod PrivateLines
+pub mod Covered
+pub mod LineRuns
+pub mod TwoRuns
