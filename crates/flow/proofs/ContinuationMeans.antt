@@ -8,7 +8,7 @@ use native.Mathlib.Omega.{arith}
 use lib.Dec.{eqb}
 use borrow.Author.Tests.{eqb-true, eq-eqb, ne-eqb}
 use Rattle.lexical.specs.Text.{byte, bytes, pick}
-use Rattle.lexical.proofs.Cases.{split}
+use Rattle.lexical.proofs.Cases.{split, and-yes, and-no}
 use Rattle.rules.specs.Search.{choose, begins, somewhere}
 use Rattle.rules.specs.Block.{closesEven, closes}
 use Rattle.rules.specs.declared.Rules.{Rules}
@@ -103,10 +103,6 @@ module _ (ρ : Rules) where
   cdata-at f x =
       ap (λ b. pick (eqb x (byte "]") && not b) ContinuationDeclarationInside (pick (eqb x (byte ">")) ContinuationClose (continuationOf Cdata x))) f
       ∙ ap (λ b. pick b ContinuationDeclarationInside (pick (eqb x (byte ">")) ContinuationClose (continuationOf Cdata x))) (and-yes (eqb x (byte "]")))
-    where
-      and-yes : (a : Bool) → (a && true) ≡ a
-      and-yes true = refl
-      and-yes false = refl
 
   cdata-is : ρ .f1 ≡ false → (s : List ℕ) → meetsOf ρ Cdata Continuation s ≡ somewhere (begins (bytes "]]>")) s
   unfolding continuationOf cdataInsideOf
@@ -119,10 +115,6 @@ module _ (ρ : Rules) where
     even-at x =
         ap (λ b. pick (eqb x (byte "]") && not b) ContinuationDeclarationInside (pick (eqb x (byte ">")) ContinuationClose (continuationOf Cdata x))) f
         ∙ ap (λ b. pick b ContinuationDeclarationInside (pick (eqb x (byte ">")) ContinuationClose (continuationOf Cdata x))) (and-no (eqb x (byte "]")))
-      where
-        and-no : (a : Bool) → (a && false) ≡ false
-        and-no true = refl
-        and-no false = refl
 
     -- by how many `]` stand just before: none, an odd number, an even one
     abbrev None : List ℕ → Type 0

@@ -12,7 +12,7 @@ use Rattle.lexical.specs.Text.{byte, bytes, pick, first, run}
 use Rattle.lexical.specs.Byte.{isLetter, isDigit, isTagNameByte, isSpaceOrTab, isLineEndingByte, isWhitespace}
 use Rattle.lexical.specs.Line.{atLineEnd}
 use Rattle.lexical.specs.Name.{isMember, sameBytes, blockNames, rawNames, isBlockName, isRawName}
-use Rattle.lexical.proofs.Cases.{split, clash, and-left, or-left, or-right, excluded}
+use Rattle.lexical.proofs.Cases.{split, clash, and-left, or-left, or-right, excluded, and-yes, and-no, or-no, letter-byte}
 use Rattle.lexical.proofs.RawNames.{raw-first, block-first}
 use Rattle.rules.specs.Search.{choose, begins, past, Left, left, nothing, exactly}
 use Rattle.rules.specs.Tag.{blockTags, tagEnd, attributes, openTag, closingTag}
@@ -54,11 +54,7 @@ module _ (ρ : Rules) (f : ℕ) where
 
   no-complete-start : (s : List ℕ) → isLetter (first s) ≡ false → begins (bytes "/") s ≡ false → startsComplete ρ (byte "<" ∷ s) ≡ false
   unfolding startsComplete openTag closingTag
-  no-complete-start s e n = rw (e, n) (and-no (ρ .f3 || not (isRawName (nameOf s))))
-    where
-      and-no : (a : Bool) → ((a && false) || false) ≡ false
-      and-no true = refl
-      and-no false = refl
+  no-complete-start s e n = rw (e, n, and-no (ρ .f3 || not (isRawName (nameOf s))))
 
   no-letter : (s : List ℕ) → isLetter (first s) ≡ false → begins (bytes "/") s ≡ false → kindAt ρ f (byte "<" ∷ s) ≡ early (byte "<" ∷ s)
   unfolding kindAt
@@ -79,14 +75,6 @@ module _ (ρ : Rules) (f : ℕ) where
   other-kind x s a b c e = no-letter (x ∷ s) e (rw b) ∙ rw (a, c)
 
 -- ---- the two orders of tests agree. E: the name ends here; S: `/` follows; G: `/>` does; R, B: a raw and a block name; C: the tag is complete; M: kind 7 may start
-and-yes : (a : Bool) → (a && true) ≡ a
-and-yes true = refl
-and-yes false = refl
-
-and-no : (a : Bool) → (a && false) ≡ false
-and-no true = refl
-and-no false = refl
-
 and-turn : (a b : Bool) → (a && b) ≡ (b && a)
 and-turn true b = sym (and-yes b)
 and-turn false b = sym (and-no b)
@@ -112,14 +100,7 @@ module _ (E S G R B C M : Bool) (no-both : S ≡ true → E ≡ false) (shut : (
       (λ b. rw (e, s, b, and-no R, and-turn C M)))
       (λ s. split G (λ g. clash S (slash-of g) s) (λ g. rw (e, s, g, and-no R, and-no B, shut (rw (e, s))))))
 
-letter-byte : (x : ℕ) → isLetter x ≡ true → isTagNameByte x ≡ true
-letter-byte x h = split (eqb x (byte "-")) (λ a. simp a) (λ a. split (isDigit x) (λ b. simp (a, b)) (λ b. simp (a, b, h)))
-
 -- ---- what follows a name
-or-no : (b : Bool) → (b || false) ≡ b
-or-no true = refl
-or-no false = refl
-
 break-is : (a : List ℕ) → isNameBreak a ≡ (nameEnds a || begins (bytes "/") a)
 break-is a = turned (atLineEnd a) (isSpaceOrTab (first a)) (begins (bytes "/") a) (begins (bytes ">") a)
   where

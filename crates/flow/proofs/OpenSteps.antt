@@ -11,7 +11,7 @@ use Rattle.lexical.specs.Text.{byte, bytes, none, first}
 use Rattle.lexical.specs.Byte.{isLetter, isSpaceOrTab, isLineEndingByte, isWhitespace}
 use Rattle.lexical.specs.Name.{cdataPrefix}
 use Rattle.lexical.specs.Line.{atLineEnd}
-use Rattle.lexical.proofs.Cases.{split, excluded}
+use Rattle.lexical.proofs.Cases.{split, excluded, and-yes}
 use Rattle.lexical.proofs.Suffix.{suffix-in, suffix-out, first-in}
 use Rattle.rules.specs.Search.{choose, begins, past, exactly}
 use Rattle.rules.specs.Tag.{blockTags, attributes}
@@ -23,10 +23,6 @@ use Rattle.flow.specs.OpenMachine.{isNameBreak, selfClosingOf, completes
 use Rattle.flow.specs.declared.tokenizer.StateName.the-variants.{CompleteClosingTagAfter, CompleteAttributeValueQuotedAfter}
 use Rattle.flow.proofs.CompleteMeans.{open-is, close-is}
 use Rattle.flow.proofs.OpenMeans.{kind-is, not-opened, nothing-opened}
-
-and-yes : (a : Bool) → (a && true) ≡ a
-and-yes true = refl
-and-yes false = refl
 
 -- ---- complete tags
 module _ (ρ : Rules) (f : ℕ) (a : List ℕ) where

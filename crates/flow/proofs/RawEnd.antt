@@ -13,7 +13,7 @@ use borrow.Author.Tests.{eq-eqb, ne-eqb, eqb-true}
 use Rattle.lexical.specs.Text.{byte, bytes, first, run}
 use Rattle.lexical.specs.Byte.{within, isLetter, isDigit, isTagNameByte, lower}
 use Rattle.lexical.specs.Name.{all, rawNames, sameBytes, isMember, isRawName}
-use Rattle.lexical.proofs.Cases.{split, clash, and-left, and-right, or-right}
+use Rattle.lexical.proofs.Cases.{split, clash, and-left, and-right, or-right, and-no, and-yes, letter-byte}
 use Rattle.lexical.proofs.RawNames.{raw-letters, raw-length}
 use Rattle.lexical.proofs.Table.{all-at}
 use Rattle.lexical.proofs.Suffix.{suffix-in, suffix-out, first-in, first-out}
@@ -68,14 +68,6 @@ module _ (line : List ℕ) (start at : ℕ) (order : start ≤ at) where
 abbrev whole : List ℕ → Bool
 whole t = isRawName (nameOf t) && begins (bytes ">") (afterName t)
 
-and-no : (a : Bool) → (a && false) ≡ false
-and-no true = refl
-and-no false = refl
-
-and-yes : (a : Bool) → (a && true) ≡ a
-and-yes true = refl
-and-yes false = refl
-
 -- a raw name has no byte that is no letter
 no-raw : (n : List ℕ) (i : ℕ) → i < length n → isLetter (getD n i 0) ≡ false → isRawName n ≡ false
 no-raw n i h e = split (isRawName n) (λ r. clash (isLetter (getD n i 0)) (all-at 0 isLetter n (raw-letters n r) i h) e) (λ r. r)
@@ -122,9 +114,6 @@ module _ (t : List ℕ) where
   -- longer than m bytes
   reaches : (m y : ℕ) (ys : List ℕ) → Goes m (y ∷ ys) → isTagNameByte y ≡ true → m < r
   reaches m y ys g h = omega (arith, goes-on m y ys g h .name)
-
-  letter-byte : (y : ℕ) → isLetter y ≡ true → isTagNameByte y ≡ true
-  letter-byte y h = split (eqb y (byte "-")) (λ a. simp a) (λ a. split (isDigit y) (λ b. simp (a, b)) (λ b. simp (a, b, h)))
 
   -- what the recursion says at a byte
   says : (n m y : ℕ) (ys : List ℕ) → drop m t ≡ y ∷ ys → eqb y (byte ">") ≡ true → rawEndOf n t m ≡ isRawName (take m t)

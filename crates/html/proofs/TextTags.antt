@@ -10,7 +10,7 @@ use lib.ListN.{drop, length}
 use borrow.Author.Tests.{eqb-true, not-false, not-true}
 use Rattle.lexical.specs.Text.{byte, bytes, pick, first}
 use Rattle.lexical.specs.Byte.{isLetter, isDigit, isTagNameByte, isAttributeNameStart, isAttributeNameByte, isSpaceOrTab, isLineEndingByte, isWhitespace, isQuote, isValueExcluded}
-use Rattle.lexical.proofs.Cases.{split, clash, or-left, or-right, excluded}
+use Rattle.lexical.proofs.Cases.{split, clash, or-left, or-right, excluded, or-no}
 use Rattle.rules.specs.Search.{choose, begins, past, Left, left, nothing, orElse, exactly}
 use Rattle.rules.specs.Tag.{Grammar, inlineTags, tagEnd, pastQuote, specification, startsName, isValueByte, value, values, attribute, attributes}
 use Rattle.rules.specs.Inline.{Read, takes, lacks, carrying}
@@ -32,10 +32,6 @@ is-spaced b stay go h = spaced-is b stay go ∙ ap (λ t. pick t stay go) h
 
 not-spaced : (b : ℕ) (stay go : State) → isWhitespace b ≡ false → spaced b stay go ≡ go
 not-spaced b stay go h = spaced-is b stay go ∙ ap (λ t. pick t stay go) h
-
-or-no : (b : Bool) → (b || false) ≡ b
-or-no true = refl
-or-no false = refl
 
 module _ (ρ : Rules) (k : ℕ) where
   abbrev g : Grammar

@@ -4,6 +4,8 @@ use mathlib.Core.Bool.{Bool, true, false, _&&_, _||_}
 use Prim.Native.Nat.{ℕ}
 use native.Mathlib.Omega.{arith}
 use lib.Dec.{T, eqb}
+use Rattle.lexical.specs.Text.{byte}
+use Rattle.lexical.specs.Byte.{isLetter, isDigit, isTagNameByte}
 use borrow.Author.Tests.{eqb-true, eq-eqb, ne-eqb, le-leb, lt-leb, lt-ltb, le-ltb}
 
 -- a test of numbers from the fact
@@ -34,6 +36,18 @@ pub and-right : (a b : Bool) → (a && b) ≡ true → b ≡ true
 and-right true b e = e
 and-right false b e = cc
 
+pub and-yes : (a : Bool) → (a && true) ≡ a
+and-yes true = refl
+and-yes false = refl
+
+pub and-no : (a : Bool) → (a && false) ≡ false
+and-no true = refl
+and-no false = refl
+
+pub or-no : (a : Bool) → (a || false) ≡ a
+or-no true = refl
+or-no false = refl
+
 -- a test that computes to true
 pub holds : (b : Bool) → b ≡ true → T b
 holds true e = tt
@@ -46,3 +60,7 @@ passes false t = absurd t
 -- a byte of a class is none that the class lacks; at a numeral and a class that is written out the first fact is `refl`
 pub excluded : (f : ℕ → Bool) (c x : ℕ) → f c ≡ false → f x ≡ true → eqb x c ≡ false
 excluded f c x lacks has = split (eqb x c) (λ h. let z : f c ≡ true = rw (eqb-true x c h) at has in cc) (λ h. h)
+
+-- a letter belongs to a tag name
+pub letter-byte : (x : ℕ) → isLetter x ≡ true → isTagNameByte x ≡ true
+letter-byte x h = split (eqb x (byte "-")) (λ a. simp a) (λ a. split (isDigit x) (λ b. simp (a, b)) (λ b. simp (a, b, h)))

@@ -7,19 +7,15 @@ use lib.Dec.{eqb}
 use borrow.Author.Tests.{eqb-true, eq-eqb, ne-eqb}
 use lib.ListN.{length, getD, drop}
 use Rattle.lexical.specs.Name.{sameBytes}
-use Rattle.lexical.proofs.Cases.{and-left, and-right}
+use Rattle.lexical.proofs.Cases.{and-left, and-right, and-no}
 use Rattle.lexical.proofs.Suffix.{suffix-in, suffix-out}
-
-and-false : (b : Bool) → (b && false) ≡ false
-and-false true = refl
-and-false false = refl
 
 pub same-unlike : (xs ys : List ℕ) → (length xs ≡ length ys → ⊥) → sameBytes xs ys ≡ false
 unfolding sameBytes
 same-unlike [] [] h = absurd (h refl)
 same-unlike [] (y ∷ ys) h = refl
 same-unlike (x ∷ xs) [] h = refl
-same-unlike (x ∷ xs) (y ∷ ys) h = rw (same-unlike xs ys (λ e. h (ap suc e))) (and-false (eqb x y))
+same-unlike (x ∷ xs) (y ∷ ys) h = rw (same-unlike xs ys (λ e. h (ap suc e))) (and-no (eqb x y))
 
 -- the first string is read through f
 module _ (f : ℕ → ℕ) (xs ys : List ℕ) (i : ℕ) where

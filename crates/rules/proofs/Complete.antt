@@ -10,7 +10,7 @@ use lib.ListN.{drop, length}
 use borrow.Author.Tests.{eqb-true}
 use Rattle.lexical.specs.Text.{byte, bytes, first}
 use Rattle.lexical.specs.Byte.{isDigit, isLetter, isWhitespace, isTagNameByte, isAttributeNameStart, isAttributeNameByte, isQuote, isValueExcluded}
-use Rattle.lexical.proofs.Cases.{split, clash, and-left, and-right}
+use Rattle.lexical.proofs.Cases.{split, clash, and-left, and-right, and-no}
 use Rattle.rules.specs.Reading.{F2, F4, F5, crate, standard, without}
 use Rattle.rules.specs.Search.{choose, begins, past, Left, left, nothing, orElse, exactly}
 use Rattle.rules.specs.Tag.{Grammar, blockTags, tagEnd, pastQuote, specification, startsName, isValueByte, pastUnquoted, value, values, attribute, attributes, openTag}
@@ -34,10 +34,6 @@ g5 = blockTags (without F5)
 -- what f leaves of s fills the line
 abbrev pub Yes : (List ℕ → Left) → List ℕ → Type 0
 Yes f s = fillsLine (f s) ≡ true
-
-and-no : (a : Bool) → (a && false) ≡ false
-and-no true = refl
-and-no false = refl
 
 -- past a test that fails
 other : (p : Bool) (x y : Unit {0} → Left) → p ≡ false → fillsLine (choose p x y) ≡ true → fillsLine (y tt) ≡ true

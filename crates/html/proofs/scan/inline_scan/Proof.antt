@@ -1,7 +1,7 @@
 -- The checks run down the table of 01: each return passes those before it.
 use mathlib.Core.Path.{_≡_, refl, sym, _∙_, ap}
 use mathlib.Core.Bool.{Bool, true, false}
-use mathlib.Core.List.{List, [], _∷_}
+use mathlib.Core.List.{List}
 use Prim.Native.Nat.{ℕ}
 use lib.Dec.{ltb}
 use lib.ListN.{length}
@@ -9,9 +9,9 @@ use borrow.Author.Tests.{lt-ltb, le-ltb}
 use Rattle.lexical.specs.Text.{limit}
 use Rattle.rules.specs.Reading.{crate as ofCrate}
 use Rattle.rules.specs.Search.{somewhere}
-use Rattle.rules.specs.Refusal.{Check, check, blankFollows, inlineRefusal}
+use Rattle.rules.specs.Refusal.{blankFollows, inlineRefusal}
 use Rattle.rules.specs.Scan.{InlineAnswer, refusedInline, inlineAt, inlineScan}
-use Rattle.rules.proofs.Refusals.{decided, applies, passes, no-more}
+use Rattle.rules.proofs.Refusals.{decided, fourChecks, by-first, by-second, by-third, by-fourth, by-none}
 use borrow.Author.Needs.{needs}
 use Rattle.html.proofs.scan.inline_scan.Statement.{statement}
 use Rattle.html.proofs.scan.inline_scan.Tie as tie
@@ -26,55 +26,36 @@ module _ (text : List ℕ) (i k : ℕ) where
   abbrev answer : InlineAnswer
   answer = inlineAt ofCrate text i k
 
-  -- the answer by the checks that are left
-  abbrev by : List Check → InlineAnswer
-  by cs = decided refuse answer cs
-
   abbrev long : Bool
   long = ltb limit (length text)
 
   abbrev past : Bool
   past = ltb (length text) i
 
+  abbrev carried : Bool
+  carried = ltb 5 k
+
   abbrev blank : Bool
   blank = somewhere blankFollows text
 
-  abbrev from-blank : List Check
-  from-blank = check blank 6 ∷ []
-
-  abbrev from-carry : List Check
-  from-carry = check (ltb 5 k) 5 ∷ from-blank
-
-  abbrev from-index : List Check
-  from-index = check past 4 ∷ from-carry
-
-  all-checks : scanned ≡ by (check long 1 ∷ from-index)
+  all-checks : scanned ≡ decided refuse answer (fourChecks refuse answer long past carried blank 1 4 5 6)
   unfolding inlineScan inlineRefusal
   all-checks = refl
 
   refuses-long : long ≡ true → scanned ≡ refusedInline 1 k
-  refuses-long h = all-checks ∙ applies refuse answer long 1 from-index refl h
-
-  behind-long : long ≡ false → scanned ≡ by from-index
-  behind-long h = all-checks ∙ passes refuse answer long 1 from-index h
+  refuses-long h = all-checks ∙ by-first refuse answer long past carried blank 1 4 5 6 refl h
 
   refuses-index : long ≡ false → past ≡ true → scanned ≡ refusedInline 4 k
-  refuses-index a h = behind-long a ∙ applies refuse answer past 4 from-carry refl h
+  refuses-index a h = all-checks ∙ by-second refuse answer long past carried blank 1 4 5 6 refl a h
 
-  behind-index : long ≡ false → past ≡ false → scanned ≡ by from-carry
-  behind-index a h = behind-long a ∙ passes refuse answer past 4 from-carry h
+  refuses-carry : long ≡ false → past ≡ false → carried ≡ true → scanned ≡ refusedInline 5 k
+  refuses-carry a b h = all-checks ∙ by-third refuse answer long past carried blank 1 4 5 6 refl a b h
 
-  refuses-carry : long ≡ false → past ≡ false → ltb 5 k ≡ true → scanned ≡ refusedInline 5 k
-  refuses-carry a b h = behind-index a b ∙ applies refuse answer (ltb 5 k) 5 from-blank refl h
+  refuses-blank : long ≡ false → past ≡ false → carried ≡ false → blank ≡ true → scanned ≡ refusedInline 6 k
+  refuses-blank a b d h = all-checks ∙ by-fourth refuse answer long past carried blank 1 4 5 6 refl a b d h
 
-  behind-carry : long ≡ false → past ≡ false → ltb 5 k ≡ false → scanned ≡ by from-blank
-  behind-carry a b h = behind-index a b ∙ passes refuse answer (ltb 5 k) 5 from-blank h
-
-  refuses-blank : long ≡ false → past ≡ false → ltb 5 k ≡ false → blank ≡ true → scanned ≡ refusedInline 6 k
-  refuses-blank a b c h = behind-carry a b c ∙ applies refuse answer blank 6 [] refl h
-
-  answers : long ≡ false → past ≡ false → ltb 5 k ≡ false → blank ≡ false → scanned ≡ inlineAt ofCrate text i k
-  answers a b c h = behind-carry a b c ∙ passes refuse answer blank 6 [] h ∙ no-more refuse answer
+  answers : long ≡ false → past ≡ false → carried ≡ false → blank ≡ false → scanned ≡ inlineAt ofCrate text i k
+  answers a b d h = all-checks ∙ by-none refuse answer long past carried blank 1 4 5 6 a b d h
 
 is-over-limit-requires : tie.Need-is-over-limit-requires
 is-over-limit-requires c κs = search needs
