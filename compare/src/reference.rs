@@ -1,0 +1,40 @@
+//! The reference: `html_text::start` and `html_flow::start` of the crate
+//! markdown 1.0.0 (MIT), driven by the crate's own tokenizer.
+//!
+//! The crate's files are compiled unchanged from shared/docs/src, which lies
+//! beside the repository. What they use and the folder does not hold is a
+//! stand-in: `state`, `message`, `resolve`, `unist`, `options`,
+//! `util::location`, `util::skip` and `construct::blank_line`.
+//!
+//! `scan` drives, `trace` writes the bytes of the Traces paragraph.
+
+extern crate alloc;
+
+#[allow(dead_code)]
+#[path = "../../../shared/docs/src/src/event.rs"]
+mod event;
+#[allow(dead_code)]
+#[path = "../../../shared/docs/src/src/parser.rs"]
+mod parser;
+#[allow(dead_code)]
+#[path = "../../../shared/docs/src/src/subtokenize.rs"]
+mod subtokenize;
+#[allow(dead_code)]
+#[path = "../../../shared/docs/src/src/tokenizer.rs"]
+mod tokenizer;
+
+mod construct;
+mod message;
+mod options;
+mod resolve;
+mod scan;
+mod state;
+mod trace;
+mod unist;
+mod util;
+
+use options::ParseOptions;
+
+pub use scan::{blank, block, holds_blank_line, inline, line_end, line_starts};
+pub use scan::{Block, Ev, Inline};
+pub use trace::{trace_block, trace_inline};
