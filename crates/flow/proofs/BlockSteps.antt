@@ -10,16 +10,17 @@ use lib.Seq.{drop-drop}
 use Rattle.lexical.specs.Line.{lineEnding, lineLength}
 use Rattle.lexical.specs.Name.{all}
 use Rattle.lexical.proofs.Suffix.{suffix-in, suffix-out}
+use Rattle.lexical.proofs.Ending.{ending-out}
 use Rattle.rules.specs.Search.{choose}
 use Rattle.rules.specs.Lines.{Line, line, flagged, cutLines, linesOf}
 use Rattle.rules.specs.Block.{Extent, extent, oneMore, endsBefore, closes, goesOn, kindOf, extentOf, stopAfter}
 use Rattle.rules.specs.Scan.{BlockAnswer, foundBlock, noBlock, blockAnswer, blockOf}
 use Rattle.rules.specs.declared.Rules.{Rules}
-use Rattle.rules.proofs.Cut.{behind, behind-none, behind-one, cut-first, content-length, lead-length, from-within, lineFrom, lineTo}
+use Rattle.rules.proofs.Cut.{behind, behind-none, behind-one, cut-first, content-length, lead-length, from-within, to-within, lineFrom, lineTo}
 use Rattle.flow.specs.Answer.{kindNumber}
 use Rattle.flow.specs.declared.html_flow.Kind.{Kind}
 use Rattle.flow.specs.declared.html_flow.Kind.the-variants.{Raw, Comment, Instruction, Declaration, Cdata, Basic, Complete}
-use Rattle.flow.specs.BlockMachine.{stopFrom, wentOn, continuationStartOf}
+use Rattle.flow.specs.BlockMachine.{stopFrom, wentOn, contentFrom, continuationStartOf}
 
 -- ---- flags
 no-flags : (ls : List Line) → flagged [] ls ≡ ls
@@ -78,18 +79,13 @@ module _ (ρ : Rules) (k : ℕ) (s flags : List ℕ) (i n : ℕ) where
   unfolding continuationStartOf flagged
   no-line e = rw (behind-none s i e) (none-left ρ k i)
 
-  abbrev nextContent : List ℕ
-  nextContent = take (lineLength (drop (lineFrom s i) s)) (drop (lineFrom s i) s)
-
-  -- the next line as the code reads it: the size of its ending, where it ends, its flag and its bytes
-  module _ (ending to f : ℕ) (content : List ℕ)
-      (a : ending ≡ lineEnding (drop i s))
-      (b : to ≡ i + ending + lineLength (drop (i + ending) s))
-      (d : content ≡ take (to - (i + ending)) (drop (i + ending) s))
-      (g : f ≡ getD (drop n flags) 0 0)
-      (h : ending ≡ 0 → ⊥) where
+  -- the next line as the code reads it: where it begins, its flag and its content
+  module _ (from f : ℕ) (content : List ℕ) (a : from ≡ lineFrom s i) (d : content ≡ contentFrom s from) (g : f ≡ getD (drop n flags) 0 0) (h : from ≡ i → ⊥) where
     abbrev lead : List ℕ
     lead = take (lineEnding (drop i s)) (drop i s)
+
+    abbrev to : ℕ
+    to = from + length content
 
     abbrev next : Line
     next = line f lead content
@@ -97,26 +93,22 @@ module _ (ρ : Rules) (k : ℕ) (s flags : List ℕ) (i n : ℕ) where
     abbrev rest : List Line
     rest = flagged (drop 1 (drop n flags)) (behind (drop to s))
 
-    content-is : content ≡ nextContent
-    content-is =
-        let m : to - (i + ending) ≡ lineLength (drop (i + ending) s) = omega (arith, b) in
-        d ∙ ap (λ t. take t (drop (i + ending) s)) m ∙ ap (λ t. take (lineLength (drop (i + t) s)) (drop (i + t) s)) a
+    content-is : content ≡ contentFrom s (lineFrom s i)
+    content-is = d ∙ ap (contentFrom s) a
 
     to-is : to ≡ lineTo s i
-    to-is = b ∙ ap (λ t. i + t + lineLength (drop (i + t) s)) a
+    to-is = let m : length content ≡ length (contentFrom s (lineFrom s i)) = ap length content-is in omega (arith, m, a, content-length (drop (lineFrom s i) s))
 
     next-line : flagged (drop n flags) (behind (drop i s)) ≡ next ∷ rest
     next-line =
-        ap (flagged (drop n flags)) (behind-one s i (λ e. h (a ∙ e)))
-        ∙ flag-first (drop n flags) lead nextContent (behind (drop (lineTo s i) s))
-        ∙ ap (λ t. line t lead nextContent ∷ flagged (drop 1 (drop n flags)) (behind (drop (lineTo s i) s))) (sym g)
+        ap (flagged (drop n flags)) (behind-one s i (λ e. h (omega (arith, a, e))))
+        ∙ flag-first (drop n flags) lead (contentFrom s (lineFrom s i)) (behind (drop (lineTo s i) s))
+        ∙ ap (λ t. line t lead (contentFrom s (lineFrom s i)) ∷ flagged (drop 1 (drop n flags)) (behind (drop (lineTo s i) s))) (sym g)
         ∙ ap (λ t. line f lead t ∷ flagged (drop 1 (drop n flags)) (behind (drop (lineTo s i) s))) (sym content-is)
         ∙ ap (λ t. next ∷ flagged (drop 1 (drop n flags)) (behind (drop t s))) (sym to-is)
 
     next-stop : i + length lead + length content ≡ to
-    next-stop =
-        let m : length content ≡ length nextContent = ap length content-is in
-        omega (arith, m, to-is, lead-length s i, content-length (drop (lineFrom s i) s))
+    next-stop = omega (arith, a, lead-length s i)
 
     pub line-ends : endsBefore k (line f [] content) ≡ true → continuationStartOf ρ k s flags i n ≡ foundBlock k i false
     unfolding continuationStartOf
@@ -133,9 +125,26 @@ module _ (ρ : Rules) (k : ℕ) (s flags : List ℕ) (i n : ℕ) where
         ap (goingOn ρ k i) next-line ∙ one-on ρ k i next rest e c
         ∙ ap (λ t. goingOn ρ k t rest) next-stop ∙ ap (λ t. goingOn ρ k to (flagged t (behind (drop to s)))) (sym r)
 
--- the next line begins within the text
-pub next-within : (s : List ℕ) (i ending : ℕ) → i < length s → ending ≡ lineEnding (drop i s) → i + ending ≤ length s
-next-within s i ending h a = rw a (from-within s i (omega arith))
+  -- the text ends here, or no line ending stands here
+  pub text-over : length s ≤ i → continuationStartOf ρ k s flags i n ≡ foundBlock k i false
+  text-over h = no-line (ending-out s i h)
+
+  pub same-from : (from : ℕ) → from ≡ lineFrom s i → from ≡ i → continuationStartOf ρ k s flags i n ≡ foundBlock k i false
+  same-from from a e = no-line (omega (arith, a, e))
+
+-- the next line ends within the text
+pub next-within : (s : List ℕ) (i from : ℕ) (content : List ℕ) → i < length s → from ≡ lineFrom s i → content ≡ contentFrom s from → from + length content ≤ length s
+next-within s i from content h a d =
+    let m : length content ≡ length (contentFrom s (lineFrom s i)) = ap length (d ∙ ap (contentFrom s) a) in
+    omega (arith, m, a, content-length (drop (lineFrom s i) s), to-within s i (omega arith))
+
+-- a line ending ends within the text
+pub ending-within : (s : List ℕ) (i ending : ℕ) → i < length s → ending ≡ lineEnding (drop i s) → i + ending ≤ length s
+ending-within s i ending h a = omega (arith, a, from-within s i (omega arith))
+
+-- the content of a line, by where it ends
+pub content-of : (s : List ℕ) (i to : ℕ) (content : List ℕ) → to ≡ i + lineLength (drop i s) → content ≡ take (to - i) (drop i s) → content ≡ contentFrom s i
+content-of s i to content b d = let m : to - i ≡ lineLength (drop i s) = omega (arith, b) in d ∙ ap (λ t. take t (drop i s)) m
 
 -- ---- the first line, as the code reads it: where it ends, its flag and its bytes
 module _ (ρ : Rules) (s flags : List ℕ) (i n : ℕ) (to f : ℕ) (content : List ℕ)
@@ -151,20 +160,20 @@ module _ (ρ : Rules) (s flags : List ℕ) (i n : ℕ) (to f : ℕ) (content : L
   abbrev pub blockAnswerAt : BlockAnswer
   blockAnswerAt = blockOf ρ i (linesOf (drop n flags) (drop i s))
 
-  first-content : content ≡ take (lineLength (drop i s)) (drop i s)
-  first-content = let m : to - i ≡ lineLength (drop i s) = omega (arith, b) in d ∙ ap (λ t. take t (drop i s)) m
+  first-content : content ≡ contentFrom s i
+  first-content = content-of s i to content b d
 
   all-lines : linesOf (drop n flags) (drop i s) ≡ firstLine ∷ others
   unfolding linesOf
   all-lines =
       ap (flagged (drop n flags)) (cut-first [] (drop i s))
-      ∙ flag-first (drop n flags) [] (take (lineLength (drop i s)) (drop i s)) (behind (drop (lineLength (drop i s)) (drop i s)))
-      ∙ ap (λ t. line t [] (take (lineLength (drop i s)) (drop i s)) ∷ flagged (drop 1 (drop n flags)) (behind (drop (lineLength (drop i s)) (drop i s)))) (sym g)
+      ∙ flag-first (drop n flags) [] (contentFrom s i) (behind (drop (lineLength (drop i s)) (drop i s)))
+      ∙ ap (λ t. line t [] (contentFrom s i) ∷ flagged (drop 1 (drop n flags)) (behind (drop (lineLength (drop i s)) (drop i s)))) (sym g)
       ∙ ap (λ t. line f [] t ∷ flagged (drop 1 (drop n flags)) (behind (drop (lineLength (drop i s)) (drop i s)))) (sym first-content)
       ∙ ap (λ t. firstLine ∷ flagged (drop 1 (drop n flags)) (behind t)) (drop-drop (lineLength (drop i s)) i s ∙ ap (λ t. drop t s) (sym b))
 
   stopped : i + length content ≡ to
-  stopped = let m : length content ≡ length (take (lineLength (drop i s)) (drop i s)) = ap length first-content in omega (arith, m, b, content-length (drop i s))
+  stopped = let m : length content ≡ length (contentFrom s i) = ap length first-content in omega (arith, m, b, content-length (drop i s))
 
   pub no-block : kindOf ρ (line f [] content) ≡ 0 → blockAnswerAt ≡ noBlock
   unfolding blockOf

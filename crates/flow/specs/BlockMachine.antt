@@ -2,7 +2,10 @@
 -- it, and proofs/BlockSteps.antt shows that it is the block of the rules.
 use Prim.Native.Nat.{ℕ, zero, suc, _+_}
 use mathlib.Core.List.{List, [], _∷_}
-use lib.ListN.{length, drop}
+use lib.Dec.{leb}
+use lib.ListN.{length, take, drop}
+use mathlib.Core.Bool.{Bool, _&&_}
+use Rattle.lexical.specs.Line.{isBlank, lineLength}
 use Rattle.rules.specs.Lines.{Line, flagged}
 use Rattle.rules.specs.Block.{Extent, goesOn}
 use Rattle.rules.specs.Scan.{BlockAnswer, foundBlock}
@@ -22,3 +25,11 @@ wentOn k stop ls e = foundBlock k (stopFrom stop (e .lines) ls) (e .closed)
 unfoldable pub continuationStartOf : Rules → ℕ → List ℕ → List ℕ → ℕ → ℕ → BlockAnswer
 continuationStartOf ρ k text flags stop number =
     wentOn k stop (flagged (drop number flags) (behind (drop stop text))) (goesOn ρ k (flagged (drop number flags) (behind (drop stop text))))
+
+-- a blank line ends kinds 6 and 7
+abbrev pub blankLineBefore : ℕ → List ℕ → Bool
+blankLineBefore k content = leb 6 k && isBlank content
+
+-- the content of the line that begins at an index
+abbrev pub contentFrom : List ℕ → ℕ → List ℕ
+contentFrom text from = take (lineLength (drop from text)) (drop from text)

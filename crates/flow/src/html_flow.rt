@@ -16,9 +16,17 @@ ghost use Rattle.lexical.specs.Name.{cdataPrefix};
 ghost use Rattle.rules.specs.Search.{begins};
 ghost use Rattle.rules.specs.Lines.{line as lineOf};
 ghost use Rattle.rules.specs.Block.{nameOf as tagNameIn, afterName, mayStart, kindAt, kindOf};
-ghost use Rattle.flow.specs.Answer.{openingNumber};
+ghost use Rattle.flow.specs.Answer.{openingNumber, blockAnswerOf};
+ghost use Rattle.rules.specs.Block.{endsBefore};
+ghost use Rattle.rules.specs.Scan.{foundBlock};
+ghost use Rattle.rules.proofs.Cut.{lineFrom};
+ghost use Rattle.flow.specs.BlockMachine.{blankLineBefore, contentFrom, continuationStartOf};
 ghost use Rattle.flow.specs.OpenMachine.{isNameBreak, selfClosingOf, completeOf, tagNameOf, tagCloseStartOf, commentOpenOf, declarationOpenOf, openOf};
+use crate::partial_non_lazy_continuation::flag_at;
+use crate::partial_non_lazy_continuation::is_lazy;
+use crate::partial_non_lazy_continuation::next_number;
 use crate::partial_space_or_tab::inside;
+use crate::scan::Block;
 use crate::tokenizer::State;
 use crate::tokenizer::StateName;
 use crate::tokenizer::run as run_complete;
@@ -35,6 +43,9 @@ use lexical::constant::HTML_RAW_SIZE_MAX;
 use lexical::constant::is_block_name;
 use lexical::constant::is_cdata_prefix_byte;
 use lexical::constant::is_raw_name;
+use lexical::line::is_blank;
+use lexical::line::line_end;
+use lexical::line::line_ending;
 use lexical::slice::from_indices;
 use rules::Rules;
 
@@ -709,4 +720,99 @@ pub(crate) fn start(rules: Rules, line: &[u8], flag: u8) -> Opening
         return Opening::Shut;
     }
     before(rules, line, indent, flag)
+}
+
+// At the end of the content: the block.
+//
+//     <!---->
+//            ^
+pub(crate) fn continuation_after(kind: Kind, stop: usize, closed: bool) -> Block
+    ensures { λ r. ⌜ blockAnswerOf r ≡ foundBlock (kindNumber kind) stop closed ⌝ }
+{
+    Block::Found { kind, stop, closed }
+}
+
+// Before a line of kind 6 or 7: whether it is blank.
+//
+//     <div>
+//          ^
+fn blank_line_before(kind: Kind, line: &[u8]) -> bool
+    ensures { λ r. ⌜ r ≡ blankLineBefore (kindNumber kind) (now (line .entry)) ⌝ }
+{
+    match kind {
+        Kind::Raw => false,
+        Kind::Comment => false,
+        Kind::Instruction => false,
+        Kind::Declaration => false,
+        Kind::Cdata => false,
+        Kind::Basic => is_blank(line, 0),
+        Kind::Complete => is_blank(line, 0),
+    }
+}
+
+// Whether a block ends in front of a line.
+fn ends_before(kind: Kind, flag: u8, line: &[u8]) -> bool
+    ensures { λ r. ⌜ r ≡ endsBefore (kindNumber kind) (lineOf flag [] (now (line .entry))) ⌝ }
+{
+    is_lazy(flag) | blank_line_before(kind, line)
+}
+
+// At a line ending: past it.
+//
+//     <!--
+//         ^
+//     asd
+fn continuation_start_non_lazy(bulletin: &[u8], stop: usize) -> usize
+    ensures { λ r. ⌜ r ≡ lineFrom (now (bulletin .entry)) stop ⌝ }
+{
+    if stop < bulletin.len() {
+        return stop + line_ending(bulletin, stop);
+    }
+    stop
+}
+
+// At the first byte of a line: its content.
+//
+//     <!--
+//     asd
+//     ^^^
+fn continuation_before(bulletin: &[u8], from: usize) -> &[u8]
+    ensures { λ r. ⌜ now r ≡ contentFrom (now (bulletin .entry)) from ⌝ }
+{
+    from_indices(bulletin, from, line_end(bulletin, from))
+}
+
+// At the end of the content so far, an index: how far the block goes. The next line's number is passed in.
+//
+//     <!--
+//         ^
+//     asd
+pub(crate) fn continuation_start(
+    rules: Rules,
+    kind: Kind,
+    bulletin: &[u8],
+    flags: &[u8],
+    index: usize,
+    line: usize,
+) -> Block
+    ensures { λ r. ⌜ blockAnswerOf r ≡ continuationStartOf rules (kindNumber kind) (now (bulletin .entry)) (now (flags .entry)) index line ⌝ }
+{
+    let mut stop = index;
+    let mut number = line;
+    while stop < bulletin.len() {
+        let from = continuation_start_non_lazy(bulletin, stop);
+        if from == stop {
+            return continuation_after(kind, stop, false);
+        }
+        let content = continuation_before(bulletin, from);
+        if ends_before(kind, flag_at(flags, number), content) {
+            return continuation_after(kind, stop, false);
+        }
+        stop = from + content.len();
+        if closes_line(rules, kind, content) {
+            return continuation_after(kind, stop, true);
+        }
+        number = next_number(flags, number);
+    }
+    continuation_after(kind, stop, false)
 }

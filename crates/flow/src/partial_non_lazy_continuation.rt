@@ -1,5 +1,6 @@
-// partial_non_lazy_continuation.rs: a lazy line goes on with no block.
+// partial_non_lazy_continuation.rs: the flags of lines. A lazy line goes on with no block.
 ghost use mathlib.Core.Path.{_≡_};
+ghost use lib.ListN.{drop, getD};
 ghost use Rattle.rules.specs.Lines.{isLazy};
 
 // Whether a line is lazy, by its flag.
@@ -7,4 +8,24 @@ pub(crate) fn is_lazy(flag: u8) -> bool
     ensures { λ r. ⌜ r ≡ isLazy flag ⌝ }
 {
     (flag == 1) | (flag == 3)
+}
+
+// The flag of a line. Past the end: 0.
+pub(crate) fn flag_at(flags: &[u8], number: usize) -> u8
+    ensures { λ r. ⌜ r ≡ getD (drop number (now (flags .entry))) 0 0 ⌝ }
+{
+    if number < flags.len() {
+        return flags[number];
+    }
+    0
+}
+
+// The next line with a flag. Past the end all numbers are alike.
+pub(crate) fn next_number(flags: &[u8], number: usize) -> usize
+    ensures { λ r. ⌜ drop r (now (flags .entry)) ≡ drop 1 (drop number (now (flags .entry))) ⌝ }
+{
+    if number < flags.len() {
+        return number + 1;
+    }
+    number
 }

@@ -1,27 +1,24 @@
 // The block scan: what is read and given, and what is refused.
 ghost use mathlib.Core.Path.{_≡_};
-ghost use mathlib.Core.List.{[]};
-ghost use Prim.Native.Nat.{_+_};
 ghost use lib.Dec.{leb};
-ghost use lib.ListN.{drop, getD};
+ghost use lib.ListN.{drop};
 ghost use Rattle.lexical.specs.Name.{all};
 ghost use Rattle.rules.specs.Reading.{crate as ofCrate};
-ghost use Rattle.rules.specs.Lines.{linesOf, line as lineOf};
-ghost use Rattle.rules.specs.Block.{endsBefore};
+ghost use Rattle.rules.specs.Lines.{linesOf};
 ghost use Rattle.rules.specs.Scan.{blockOf, blockScan};
-ghost use Rattle.flow.specs.Answer.{kindNumber, blockAnswerOf};
-ghost use Rattle.flow.specs.BlockMachine.{continuationStartOf};
+ghost use Rattle.flow.specs.Answer.{blockAnswerOf};
 use crate::html_flow::Kind;
 use crate::html_flow::Opening;
 use crate::html_flow::closes_line;
+use crate::html_flow::continuation_after;
+use crate::html_flow::continuation_start;
 use crate::html_flow::start;
-use crate::partial_non_lazy_continuation::is_lazy;
+use crate::partial_non_lazy_continuation::flag_at;
+use crate::partial_non_lazy_continuation::next_number;
 use lexical::constant::is_over_limit;
 use lexical::line::count_lines;
-use lexical::line::is_blank;
 use lexical::line::is_line_start;
 use lexical::line::line_end;
-use lexical::line::line_ending;
 use lexical::slice::from_indices;
 use rules::Rules;
 
@@ -47,26 +44,6 @@ pub enum Block {
     },
 }
 
-// The flag of a line. Past the end: 0.
-fn flag_at(flags: &[u8], number: usize) -> u8
-    ensures { λ r. ⌜ r ≡ getD (drop number (now (flags .entry))) 0 0 ⌝ }
-{
-    if number < flags.len() {
-        return flags[number];
-    }
-    0
-}
-
-// The next line with a flag. Past the end all numbers are alike.
-fn next_number(flags: &[u8], number: usize) -> usize
-    ensures { λ r. ⌜ drop r (now (flags .entry)) ≡ drop 1 (drop number (now (flags .entry))) ⌝ }
-{
-    if number < flags.len() {
-        return number + 1;
-    }
-    number
-}
-
 // Whether all flags are 0 to 3.
 fn are_flags(flags: &[u8]) -> bool
     ensures { λ r. ⌜ r ≡ all (λ f. leb f 3) (now (flags .entry)) ⌝ }
@@ -81,81 +58,6 @@ fn are_flags(flags: &[u8]) -> bool
     true
 }
 
-// Whether a blank line ends a block: kinds 6 and 7.
-fn ends_at_blank(kind: Kind) -> bool
-    ensures { λ r. ⌜ r ≡ leb 6 (kindNumber kind) ⌝ }
-{
-    match kind {
-        Kind::Raw => false,
-        Kind::Comment => false,
-        Kind::Instruction => false,
-        Kind::Declaration => false,
-        Kind::Cdata => false,
-        Kind::Basic => true,
-        Kind::Complete => true,
-    }
-}
-
-// Whether a block ends in front of a line. A lazy line ends every kind.
-fn ends_before(kind: Kind, flag: u8, line: &[u8]) -> bool
-    ensures { λ r. ⌜ r ≡ endsBefore (kindNumber kind) (lineOf flag [] (now (line .entry))) ⌝ }
-{
-    is_lazy(flag) | (ends_at_blank(kind) & is_blank(line, 0))
-}
-
-// The lines behind those taken, whose content ends at an index: how far the block goes.
-//
-//     <!--
-//     asd
-//   > ^^^^
-fn continuation_start(
-    rules: Rules,
-    kind: Kind,
-    bulletin: &[u8],
-    flags: &[u8],
-    index: usize,
-    line: usize,
-) -> Block
-    ensures { λ r. ⌜ blockAnswerOf r ≡ continuationStartOf rules (kindNumber kind) (now (bulletin .entry)) (now (flags .entry)) index line ⌝ }
-{
-    let mut stop = index;
-    let mut number = line;
-    while stop < bulletin.len() {
-        let ending = line_ending(bulletin, stop);
-        if ending == 0 {
-            return Block::Found {
-                kind,
-                stop,
-                closed: false,
-            };
-        }
-        let from = stop + ending;
-        let to = line_end(bulletin, from);
-        let content = from_indices(bulletin, from, to);
-        if ends_before(kind, flag_at(flags, number), content) {
-            return Block::Found {
-                kind,
-                stop,
-                closed: false,
-            };
-        }
-        if closes_line(rules, kind, content) {
-            return Block::Found {
-                kind,
-                stop: to,
-                closed: true,
-            };
-        }
-        stop = to;
-        number = next_number(flags, number);
-    }
-    Block::Found {
-        kind,
-        stop,
-        closed: false,
-    }
-}
-
 // The block that the line at an index opens, in any reading, with the line's number. Past the end: none.
 pub fn block_at(rules: Rules, bulletin: &[u8], flags: &[u8], index: usize, line: usize) -> Block
     ensures { λ r. ⌜ blockAnswerOf r ≡ blockOf rules index (linesOf (drop line (now (flags .entry))) (drop index (now (bulletin .entry)))) ⌝ }
@@ -166,11 +68,7 @@ pub fn block_at(rules: Rules, bulletin: &[u8], flags: &[u8], index: usize, line:
         Opening::Shut => Block::Missing,
         Opening::Opens(kind) => {
             if closes_line(rules, kind, content) {
-                return Block::Found {
-                    kind,
-                    stop,
-                    closed: true,
-                };
+                return continuation_after(kind, stop, true);
             }
             continuation_start(rules, kind, bulletin, flags, stop, next_number(flags, line))
         }

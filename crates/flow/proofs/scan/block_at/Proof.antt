@@ -27,10 +27,14 @@ enum-known-kind c = search needs
 closes-line-requires : tie.Need-closes-line-requires
 closes-line-requires c κs = search needs
 
+continuation-after-requires : tie.Need-continuation-after-requires
+continuation-after-requires c κs = search needs
+
 returns : tie.Need-returns
-returns c = let a = c .before .before .before .before .before .before .before .before .before .before .before .args in let k = c .before .before .before .kind .given .0 .0 in
-    sym (first-closes (a .rules) (a .bulletin .now) (a .flags .now) (a .index) (a .line) _ _ _ (c .before .before .before .before .before .before .before .before .line-end .ensures) (c .before .before .before .before .before .before .before .from-indices .ensures) (c .before .before .before .before .before .before .flag-at .ensures)
-    (kindNumber k) (sym (c .before .before .before .before .before .start .ensures) ∙ ap openingNumber (c .before .before .before .kind .given .1)) (has-number k) (sym (c .before .closes-line .ensures) ∙ c .if1 .taken))
+returns c = let a = c .before .before .before .before .before .before .before .before .before .before .before .before .args in let k = c .before .before .before .before .kind .given .0 .0 in
+    c .continuation-after .ensures
+    ∙ sym (first-closes (a .rules) (a .bulletin .now) (a .flags .now) (a .index) (a .line) _ _ _ (c .before .before .before .before .before .before .before .before .before .line-end .ensures) (c .before .before .before .before .before .before .before .before .from-indices .ensures) (c .before .before .before .before .before .before .before .flag-at .ensures)
+    (kindNumber k) (sym (c .before .before .before .before .before .before .start .ensures) ∙ ap openingNumber (c .before .before .before .before .kind .given .1)) (has-number k) (sym (c .before .before .closes-line .ensures) ∙ c .before .if1 .taken))
 
 next-number-requires : tie.Need-next-number-requires
 next-number-requires c κs = search needs
@@ -60,6 +64,7 @@ block-at-spec =
     enum-told
     enum-known-kind
     closes-line-requires
+    continuation-after-requires
     returns
     next-number-requires
     continuation-start-requires

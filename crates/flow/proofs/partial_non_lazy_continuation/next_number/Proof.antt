@@ -2,8 +2,8 @@ use mathlib.Core.Path.{sym}
 use lib.Seq.{drop-drop}
 use Rattle.lexical.proofs.Suffix.{suffix-out}
 use borrow.Author.Needs.{needs}
-use Rattle.flow.proofs.scan.next_number.Statement.{statement}
-use Rattle.flow.proofs.scan.next_number.Tie as tie
+use Rattle.flow.proofs.partial_non_lazy_continuation.next_number.Statement.{statement}
+use Rattle.flow.proofs.partial_non_lazy_continuation.next_number.Tie as tie
 
 add-result : tie.Need-add-result
 add-result c = search needs

@@ -2,8 +2,8 @@ use mathlib.Core.Path.{sym, ap}
 use lib.ListN.{getD}
 use Rattle.lexical.proofs.Suffix.{suffix-in, suffix-out}
 use borrow.Author.Needs.{needs}
-use Rattle.flow.proofs.scan.flag_at.Statement.{statement}
-use Rattle.flow.proofs.scan.flag_at.Tie as tie
+use Rattle.flow.proofs.partial_non_lazy_continuation.flag_at.Statement.{statement}
+use Rattle.flow.proofs.partial_non_lazy_continuation.flag_at.Tie as tie
 
 shared-slice-read-result : tie.Need-shared-slice-read-result
 shared-slice-read-result c = search needs

@@ -1,6 +1,6 @@
 use borrow.Author.Needs.{needs}
-use Rattle.flow.proofs.scan.ends_at_blank.Statement.{statement}
-use Rattle.flow.proofs.scan.ends_at_blank.Tie as tie
+use Rattle.flow.proofs.html_flow.blank_line_before.Statement.{statement}
+use Rattle.flow.proofs.html_flow.blank_line_before.Tie as tie
 
 enum-told : tie.Need-enum-told
 enum-told c = search needs
@@ -20,8 +20,14 @@ enum-told-5 c = search needs
 enum-told-6 : tie.Need-enum-told-6
 enum-told-6 c = search needs
 
+is-blank-requires : tie.Need-is-blank-requires
+is-blank-requires c κs = search needs
+
 enum-told-7 : tie.Need-enum-told-7
 enum-told-7 c = search needs
+
+is-blank-requires-2 : tie.Need-is-blank-requires-2
+is-blank-requires-2 c κs = search needs
 
 returns : tie.Need-returns
 returns c = rw (c .enum-told .given .1)
@@ -39,13 +45,13 @@ returns-5 : tie.Need-returns-5
 returns-5 c = rw (c .enum-told5 .given .1)
 
 returns-6 : tie.Need-returns-6
-returns-6 c = rw (c .enum-told6 .given .1)
+returns-6 c = rw (c .before .enum-told6 .given .1) (c .is-blank .ensures)
 
 returns-7 : tie.Need-returns-7
-returns-7 c = rw (c .enum-told7 .given .1)
+returns-7 c = rw (c .before .enum-told7 .given .1) (c .is-blank2 .ensures)
 
-pub ends-at-blank-spec : {M : Type 1} → statement M
-ends-at-blank-spec =
+pub blank-line-before-spec : {M : Type 1} → statement M
+blank-line-before-spec =
     tie.close
     (tie.spec
     enum-told
@@ -54,7 +60,9 @@ ends-at-blank-spec =
     enum-told-4
     enum-told-5
     enum-told-6
+    is-blank-requires
     enum-told-7
+    is-blank-requires-2
     returns
     returns-2
     returns-3
