@@ -2,14 +2,14 @@ use mathlib.Core.Path.{_≡_}
 use Prim.Native.Nat.{_-_}
 use lib.ListN.{length}
 use borrow.Author.Needs.{needs}
-use Rattle.html_cases.proofs.unescape.Statement.{statement}
-use Rattle.html_cases.proofs.unescape.Tie as tie
+use Rattle.scan_cases.proofs.unescape.Statement.{statement}
+use Rattle.scan_cases.proofs.unescape.Tie as tie
 
 abbrev Inv-loop : tie.InvT-loop
-Inv-loop line out₀ i₀ n₀ out i n = length out ≡ length out₀
+Inv-loop line from out₀ i₀ n₀ out i n = length out ≡ length out₀
 
 abbrev μ-loop : tie.MeasureT-loop
-μ-loop line out₀ i₀ n₀ out i n = length line - i
+μ-loop line from out₀ i₀ n₀ out i n = length line - i
 
 loop-holds : tie.Need-loop-holds Inv-loop μ-loop
 loop-holds c = search needs

@@ -3,8 +3,8 @@ use Prim.Native.Nat.{_≤_, _-_}
 use native.Mathlib.Omega.{arith}
 use lib.ListN.{length}
 use borrow.Author.Needs.{needs}
-use Rattle.html_cases.proofs.each.Statement.{statement}
-use Rattle.html_cases.proofs.each.Tie as tie
+use Rattle.scan_cases.proofs.each.Statement.{statement}
+use Rattle.scan_cases.proofs.each.Tie as tie
 
 abbrev Inv-loop : tie.InvT-loop
 Inv-loop text from₀ i₀ from i = (from ≤ i) × (i ≤ length text)
