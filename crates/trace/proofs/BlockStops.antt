@@ -1,0 +1,152 @@
+-- What an answer of the block scan says of the text: where a scan is not refused, the text is within the limit and the index within the text; a stop lies
+-- between the index and the end, because the lines from the index on have together the bytes from there on.
+use mathlib.Core.Path.{_≡_, refl, sym, _∙_}
+use mathlib.Core.Bool.{Bool, true, false, not}
+use mathlib.Core.List.{List, [], _∷_}
+use Prim.Native.Nat.{ℕ, zero, suc, _+_, _-_, _<_, _≤_}
+use native.Mathlib.Omega.{arith}
+use lib.Dec.{eqb, ltb}
+use lib.ListN.{length, take, drop, length-drop}
+use borrow.Author.Tests.{eq-eqb, eqb-true, ltb-true, ltb-false}
+use Rattle.lexical.specs.Text.{limit, byte}
+use Rattle.lexical.specs.Line.{isLineStart, lineEndings}
+use Rattle.lexical.proofs.Cases.{split}
+use Rattle.lexical.proofs.Ending.{ends-out}
+use Rattle.rules.specs.Reading.{crate as ofCrate}
+use Rattle.rules.specs.Refusal.{blockRefusal}
+use Rattle.rules.specs.Lines.{Line, push, cutLines, flagged, linesOf}
+use Rattle.rules.specs.Block.{kindOf, extentOf, stopAfter}
+use Rattle.rules.specs.Scan.{foundBlock, noBlock, refusedBlock, blockOf, linesAt, blockAt, blockScan}
+use Rattle.trace.proofs.Stops.{Between, first-check, next-check}
+use Rattle.trace.proofs.Empty.{some-lines}
+
+-- ---- the bytes of lines
+abbrev size : List Line → ℕ
+size [] = 0
+size (l ∷ ls) = length (l .lead) + length (l .content) + size ls
+
+push-size : (x : ℕ) (ls : List Line) → 0 < length ls → size (push x ls) ≡ suc (size ls)
+push-size x [] h = absurd (omega arith)
+push-size x (l ∷ ls) h = omega arith
+
+both-sizes : (s : List ℕ) → ((e : List ℕ) → size (cutLines false e s) ≡ length e + length s) × (size (cutLines true (byte "\r" ∷ []) s) ≡ 1 + length s)
+unfolding cutLines
+both-sizes [] = (λ e. omega arith, refl)
+both-sizes (x ∷ xs) = (
+  λ e. split (eqb x (byte "\n"))
+      (λ h. simp h (let l = both-sizes xs .0 (byte "\n" ∷ []) in omega arith))
+      (λ h. split (eqb x (byte "\r"))
+      (λ r. simp (h, r) (let l = both-sizes xs .1 in omega arith))
+      (λ r. simp (h, r) (let l = both-sizes xs .0 e in omega (arith, push-size x (cutLines false e xs) (some-lines false e xs))))),
+  split (eqb x (byte "\n"))
+      (λ h. simp h (let l = both-sizes xs .0 (byte "\r" ∷ byte "\n" ∷ []) in omega arith))
+      (λ h. split (eqb x (byte "\r"))
+      (λ r. simp (h, r) (let l = both-sizes xs .1 in omega arith))
+      (λ r. simp (h, r) (let l = both-sizes xs .0 (byte "\r" ∷ []) in omega (arith, push-size x (cutLines false (byte "\r" ∷ []) xs) (some-lines false (byte "\r" ∷ []) xs))))),
+)
+
+flagged-size : (flags : List ℕ) (ls : List Line) → size (flagged flags ls) ≡ size ls
+unfolding flagged
+flagged-size [] [] = refl
+flagged-size [] (l ∷ ls) = refl
+flagged-size (f ∷ fs) [] = refl
+flagged-size (f ∷ fs) (l ∷ ls) = let e = flagged-size fs ls in omega arith
+
+lines-size : (text flags : List ℕ) (i : ℕ) → size (linesAt text flags i) ≡ length text - i
+unfolding linesAt linesOf
+lines-size text flags i =
+    flagged-size (drop (lineEndings (take i text)) flags) (cutLines false [] (drop i text)) ∙ both-sizes (drop i text) .0 [] ∙ omega (arith, length-drop i text)
+
+-- ---- the stop
+stop-from : (i n : ℕ) (ls : List Line) → i ≤ stopAfter i n ls
+unfolding stopAfter
+stop-from i zero ls = omega arith
+stop-from i (suc n) [] = omega arith
+stop-from i (suc zero) (l ∷ ls) = omega arith
+stop-from i (suc (suc n)) (l ∷ []) = omega arith
+stop-from i (suc (suc n)) (l ∷ m ∷ ls) = let h = stop-from (i + length (l .content) + length (m .lead)) (suc n) (m ∷ ls) in omega arith
+
+stop-to : (i n : ℕ) (l : Line) (ls : List Line) → stopAfter i n (l ∷ ls) ≤ i + length (l .content) + size ls
+unfolding stopAfter
+stop-to i zero l ls = omega arith
+stop-to i (suc zero) l ls = omega arith
+stop-to i (suc (suc n)) l [] = omega arith
+stop-to i (suc (suc n)) l (m ∷ ls) = let h = stop-to (i + length (l .content) + length (m .lead)) (suc n) m ls in omega arith
+
+found-between : (i n : ℕ) (ls : List Line) (kind stop : ℕ) (closed : Bool) → size ls ≡ n - i → i ≤ n → blockOf ofCrate i ls ≡ foundBlock kind stop closed → Between i stop n
+unfolding blockOf
+found-between i n [] kind stop closed e h f = let z : _≡_ {A = ℕ} 0 1 = cc in absurd (omega arith)
+found-between i n (l ∷ ls) kind stop closed e h f =
+    split (eqb (kindOf ofCrate l) 0)
+    (λ t. let g = rw t at f in let z : _≡_ {A = ℕ} 0 1 = cc in absurd (omega arith))
+    (λ t.
+    let g = rw t at f in
+    let s : stopAfter i (extentOf ofCrate (kindOf ofCrate l) l ls .lines) (l ∷ ls) ≡ stop = cc in
+    record { from = omega (arith, s, stop-from i (extentOf ofCrate (kindOf ofCrate l) l ls .lines) (l ∷ ls)); to = omega (arith, s, stop-to i (extentOf ofCrate (kindOf ofCrate l) l ls .lines) l ls) })
+
+-- ---- what was checked
+start-within : (s : List ℕ) (i : ℕ) → isLineStart s i ≡ true → i ≤ length s
+unfolding isLineStart
+start-within s zero h = omega arith
+start-within s (suc i) h =
+    split (ltb i (length s)) (λ t. let l : i < length s = ltb-true i (length s) t in omega arith)
+    (λ t. let e = ends-out s i (ltb-false i (length s) t) in let z : _≡_ {A = ℕ} 0 1 = cc in absurd (omega arith))
+
+not-false : (b : Bool) → not b ≡ false → b ≡ true
+not-false true e = refl
+not-false false e = sym e
+
+pub record AdmittedBlock (text : List ℕ) (i : ℕ) : Type 0 where
+  pub small : length text ≤ limit
+  pub within : i ≤ length text
+
+module _ (text flags : List ℕ) (i : ℕ) where
+  pub block-admitted : blockRefusal text flags i ≡ 0 → AdmittedBlock text i
+  unfolding blockRefusal
+  block-admitted e =
+      let a : ltb limit (length text) ≡ false = first-check _ 1 _ (λ z. omega arith) e in
+      let e2 = next-check _ 1 _ a e in
+      let e3 = next-check _ 2 _ (first-check _ 2 _ (λ z. omega arith) e2) e2 in
+      let e4 = next-check _ 3 _ (first-check _ 3 _ (λ z. omega arith) e3) e3 in
+      let d : not (isLineStart text i) ≡ false = first-check _ 4 _ (λ z. omega arith) e4 in
+      record { small = ltb-false limit (length text) a; within = start-within text i (not-false (isLineStart text i) d) }
+
+  pub block-between : i ≤ length text → (kind stop : ℕ) (closed : Bool) → blockAt ofCrate text flags i ≡ foundBlock kind stop closed → Between i stop (length text)
+  unfolding blockAt
+  block-between h kind stop closed f = found-between i (length text) (linesAt text flags i) kind stop closed (lines-size text flags i) h f
+
+  -- ---- by the answer
+  no-refusal : (ls : List Line) (m : ℕ) → blockOf ofCrate i ls ≡ refusedBlock m → ⊥
+  unfolding blockOf
+  no-refusal [] m e = let z : _≡_ {A = ℕ} 0 1 = cc in omega arith
+  no-refusal (l ∷ ls) m e =
+      split (eqb (kindOf ofCrate l) 0)
+      (λ t. let g = rw t at e in let z : _≡_ {A = ℕ} 0 1 = cc in omega arith)
+      (λ t. let g = rw t at e in let z : _≡_ {A = ℕ} 0 1 = cc in omega arith)
+
+  pub block-refused-number : (n : ℕ) → blockScan ofCrate text flags i ≡ refusedBlock n → blockRefusal text flags i ≡ n
+  unfolding blockScan blockAt
+  block-refused-number n e =
+      split (eqb (blockRefusal text flags i) 0) (λ t. absurd (no-refusal (linesAt text flags i) n (rw t at e))) (λ t. let f = rw t at e in cc)
+
+  pub block-refused-some : (n : ℕ) → blockScan ofCrate text flags i ≡ refusedBlock n → n ≡ 0 → ⊥
+  unfolding blockScan blockAt
+  block-refused-some n e z =
+      let r : blockRefusal text flags i ≡ 0 = block-refused-number n e ∙ z in
+      no-refusal (linesAt text flags i) n (rw (eq-eqb (blockRefusal text flags i) 0 r) at e)
+
+  pub block-found-passes : (kind stop : ℕ) (closed : Bool) → blockScan ofCrate text flags i ≡ foundBlock kind stop closed → blockRefusal text flags i ≡ 0
+  unfolding blockScan
+  block-found-passes kind stop closed e =
+      split (eqb (blockRefusal text flags i) 0) (λ t. eqb-true (blockRefusal text flags i) 0 t)
+      (λ t. let f = rw t at e in let z : _≡_ {A = ℕ} 0 1 = cc in absurd (omega arith))
+
+  pub block-found-at : (kind stop : ℕ) (closed : Bool) → blockScan ofCrate text flags i ≡ foundBlock kind stop closed → blockAt ofCrate text flags i ≡ foundBlock kind stop closed
+  unfolding blockScan
+  block-found-at kind stop closed e = rw (eq-eqb (blockRefusal text flags i) 0 (block-found-passes kind stop closed e)) at e
+
+  pub block-none-passes : blockScan ofCrate text flags i ≡ noBlock → blockRefusal text flags i ≡ 0
+  unfolding blockScan
+  block-none-passes e =
+      split (eqb (blockRefusal text flags i) 0) (λ t. eqb-true (blockRefusal text flags i) 0 t)
+      (λ t. let f = rw t at e in let z : _≡_ {A = ℕ} 0 1 = cc in absurd (omega arith))

@@ -1,0 +1,11 @@
+pub mod Numbers
+pub mod Flaws
+pub mod Stores
+pub mod Marks
+pub mod Walks
+pub mod Turns
+pub mod Outputs
+pub mod Pieces
+pub mod Stops
+pub mod Empty
+pub mod BlockStops

@@ -1,0 +1,51 @@
+use mathlib.Core.Path.{_≡_, refl, sym, _∙_}
+use Prim.Native.Nat.{_-_}
+use lib.Dec.{eqb}
+use lib.ListN.{length}
+use borrow.Author.Tests.{eq-eqb, ne-eqb}
+use Rattle.lexical.proofs.Run.{runEnd, run-on, run-stop, run-over}
+use borrow.Author.Needs.{needs}
+use borrow.Author.Needs.{needs}
+use Rattle.trace.proofs.block.indent_end.Statement.{statement}
+use Rattle.trace.proofs.block.indent_end.Tie as tie
+
+abbrev Inv-loop : tie.InvT-loop
+Inv-loop front index i₀ i = runEnd (λ b. eqb b 32) front i ≡ runEnd (λ b. eqb b 32) front index
+
+abbrev μ-loop : tie.MeasureT-loop
+μ-loop front index i₀ i = length front - i
+
+loop-holds : tie.Need-loop-holds Inv-loop μ-loop
+loop-holds c = refl
+
+shared-slice-read-if1 : tie.Need-shared-slice-read-if1 Inv-loop μ-loop
+shared-slice-read-if1 c = search needs
+
+returns : tie.Need-returns Inv-loop μ-loop
+returns c = sym (run-stop (λ b. eqb b 32) _ _ (c .before .before .loop-test .taken) (ne-eqb _ _ (c .if1 .taken))) ∙ c .before .before .before .loop .inv
+
+add-i : tie.Need-add-i Inv-loop μ-loop
+add-i c = search needs
+
+loop-less : tie.Need-loop-less Inv-loop μ-loop
+loop-less c = search needs
+
+loop-again : tie.Need-loop-again Inv-loop μ-loop
+loop-again c = run-on (λ b. eqb b 32) _ _ (c .before .before .loop-test .taken) (eq-eqb _ _ (c .if1 .left)) ∙ c .before .before .before .loop .inv
+
+returns-2 : tie.Need-returns-2 Inv-loop μ-loop
+returns-2 c = sym (run-over (λ b. eqb b 32) _ _ (c .loop-test .left)) ∙ c .before .loop .inv
+
+pub indent-end-spec : {M : Type 1} → statement M
+indent-end-spec =
+    tie.close
+    (tie.spec
+    Inv-loop
+    μ-loop
+    loop-holds
+    shared-slice-read-if1
+    returns
+    add-i
+    loop-less
+    loop-again
+    returns-2)
