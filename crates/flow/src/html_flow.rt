@@ -1,4 +1,6 @@
-// html_flow.rs: HTML blocks. A function for each state.
+// html_flow.rs: HTML blocks. A function for each state, over one line without its ending; `continuation_start` goes from line to line.
+//
+// F1 lives in the states inside CDATA, F2, F4 and F5 in the complete states, F3 in `complete`, F6 in `may_start`. A `Retry` of the Rust is a call.
 ghost use mathlib.Core.Path.{_≡_};
 ghost use Rattle.flow.specs.CompleteMachine.{isTagBreak, isNameStart, isValueEnd, endOf, afterOf, closingTagAfterOf, nameBeforeOf, nameAfterOf, nameOf, valueQuotedOf, valueQuotedAfterOf, valueUnquotedOf, valueBeforeOf};
 ghost use Prim.Native.Nat.{_-_, _<_, _≤_};
