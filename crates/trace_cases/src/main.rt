@@ -1,6 +1,7 @@
 // Cases for traces. Each line of standard input is one, a letter and bytes in hexadecimal. `i`: an index, a carry, the room in the buffer, and a text; the
 // answer of the trace, and the buffer after it, which held EE. `b`: an index, the number of flags, the room, the flags, and a bulletin; the same of a block.
-// `r`: a number, and a trace; the record of that number. The bytes of traces are those of the Rust crate markdown 1.0.0, from compare.
+// `r`: a number, and a trace; the record of that number. The bytes of
+// written traces are those of the Rust crate markdown 1.0.0, from compare; records read and refusals are worked out by hand.
 ghost use Prim.Native.Nat.{_<_, _≤_};
 ghost use lib.ListN.{length};
 use lexical::slice::from_indices;
