@@ -16,7 +16,7 @@ use Rattle.rules.specs.Lines.{Line, line, flagged, cutLines, linesOf}
 use Rattle.rules.specs.Block.{Extent, extent, oneMore, endsBefore, closes, goesOn, kindOf, extentOf, stopAfter}
 use Rattle.rules.specs.Scan.{BlockAnswer, foundBlock, noBlock, blockAnswer, blockOf}
 use Rattle.rules.specs.declared.Rules.{Rules}
-use Rattle.rules.proofs.Cut.{behind, behind-none, behind-one, cut-first, content-length, lead-length, from-within, to-within, lineFrom, lineTo}
+use Rattle.rules.proofs.Cut.{behind, behind-none, behind-one, cut-first, content-length, lead-length, to-within, lineFrom, lineTo}
 use Rattle.flow.specs.Answer.{kindNumber}
 use Rattle.flow.specs.declared.html_flow.Kind.{Kind}
 use Rattle.flow.specs.declared.html_flow.Kind.the-variants.{Raw, Comment, Instruction, Declaration, Cdata, Basic, Complete}
@@ -81,25 +81,25 @@ module _ (ρ : Rules) (k : ℕ) (s flags : List ℕ) (i n : ℕ) where
 
   -- the next line as the code reads it: where it begins, its flag and its content
   module _ (from f : ℕ) (content : List ℕ) (a : from ≡ lineFrom s i) (d : content ≡ contentFrom s from) (g : f ≡ getD (drop n flags) 0 0) (h : from ≡ i → ⊥) where
-    abbrev lead : List ℕ
+    abbrev pub lead : List ℕ
     lead = take (lineEnding (drop i s)) (drop i s)
 
-    abbrev to : ℕ
+    abbrev pub to : ℕ
     to = from + length content
 
-    abbrev next : Line
+    abbrev pub next : Line
     next = line f lead content
 
-    abbrev rest : List Line
+    abbrev pub rest : List Line
     rest = flagged (drop 1 (drop n flags)) (behind (drop to s))
 
     content-is : content ≡ contentFrom s (lineFrom s i)
     content-is = d ∙ ap (contentFrom s) a
 
-    to-is : to ≡ lineTo s i
+    pub to-is : to ≡ lineTo s i
     to-is = let m : length content ≡ length (contentFrom s (lineFrom s i)) = ap length content-is in omega (arith, m, a, content-length (drop (lineFrom s i) s))
 
-    next-line : flagged (drop n flags) (behind (drop i s)) ≡ next ∷ rest
+    pub next-line : flagged (drop n flags) (behind (drop i s)) ≡ next ∷ rest
     next-line =
         ap (flagged (drop n flags)) (behind-one s i (λ e. h (omega (arith, a, e))))
         ∙ flag-first (drop n flags) lead (contentFrom s (lineFrom s i)) (behind (drop (lineTo s i) s))
@@ -107,7 +107,7 @@ module _ (ρ : Rules) (k : ℕ) (s flags : List ℕ) (i n : ℕ) where
         ∙ ap (λ t. line f lead t ∷ flagged (drop 1 (drop n flags)) (behind (drop (lineTo s i) s))) (sym content-is)
         ∙ ap (λ t. next ∷ flagged (drop 1 (drop n flags)) (behind (drop t s))) (sym to-is)
 
-    next-stop : i + length lead + length content ≡ to
+    pub next-stop : i + length lead + length content ≡ to
     next-stop = omega (arith, a, lead-length s i)
 
     pub line-ends : endsBefore k (line f [] content) ≡ true → continuationStartOf ρ k s flags i n ≡ foundBlock k i false
@@ -138,10 +138,6 @@ next-within s i from content h a d =
     let m : length content ≡ length (contentFrom s (lineFrom s i)) = ap length (d ∙ ap (contentFrom s) a) in
     omega (arith, m, a, content-length (drop (lineFrom s i) s), to-within s i (omega arith))
 
--- a line ending ends within the text
-pub ending-within : (s : List ℕ) (i ending : ℕ) → i < length s → ending ≡ lineEnding (drop i s) → i + ending ≤ length s
-ending-within s i ending h a = omega (arith, a, from-within s i (omega arith))
-
 -- the content of a line, by where it ends
 pub content-of : (s : List ℕ) (i to : ℕ) (content : List ℕ) → to ≡ i + lineLength (drop i s) → content ≡ take (to - i) (drop i s) → content ≡ contentFrom s i
 content-of s i to content b d = let m : to - i ≡ lineLength (drop i s) = omega (arith, b) in d ∙ ap (λ t. take t (drop i s)) m
@@ -151,10 +147,10 @@ module _ (ρ : Rules) (s flags : List ℕ) (i n : ℕ) (to f : ℕ) (content : L
     (b : to ≡ i + lineLength (drop i s))
     (d : content ≡ take (to - i) (drop i s))
     (g : f ≡ getD (drop n flags) 0 0) where
-  abbrev firstLine : Line
+  abbrev pub firstLine : Line
   firstLine = line f [] content
 
-  abbrev others : List Line
+  abbrev pub others : List Line
   others = flagged (drop 1 (drop n flags)) (behind (drop to s))
 
   abbrev pub blockAnswerAt : BlockAnswer
@@ -163,7 +159,7 @@ module _ (ρ : Rules) (s flags : List ℕ) (i n : ℕ) (to f : ℕ) (content : L
   first-content : content ≡ contentFrom s i
   first-content = content-of s i to content b d
 
-  all-lines : linesOf (drop n flags) (drop i s) ≡ firstLine ∷ others
+  pub all-lines : linesOf (drop n flags) (drop i s) ≡ firstLine ∷ others
   unfolding linesOf
   all-lines =
       ap (flagged (drop n flags)) (cut-first [] (drop i s))
@@ -172,7 +168,7 @@ module _ (ρ : Rules) (s flags : List ℕ) (i n : ℕ) (to f : ℕ) (content : L
       ∙ ap (λ t. line f [] t ∷ flagged (drop 1 (drop n flags)) (behind (drop (lineLength (drop i s)) (drop i s)))) (sym first-content)
       ∙ ap (λ t. firstLine ∷ flagged (drop 1 (drop n flags)) (behind t)) (drop-drop (lineLength (drop i s)) i s ∙ ap (λ t. drop t s) (sym b))
 
-  stopped : i + length content ≡ to
+  pub stopped : i + length content ≡ to
   stopped = let m : length content ≡ length (contentFrom s i) = ap length first-content in omega (arith, m, b, content-length (drop i s))
 
   pub no-block : kindOf ρ (line f [] content) ≡ 0 → blockAnswerAt ≡ noBlock

@@ -5,19 +5,20 @@ use mathlib.Core.List.{List, [], _∷_}
 use Prim.Native.Nat.{ℕ, suc, _+_, _<_, _≤_}
 use native.Mathlib.Omega.{arith}
 use lib.Dec.{eqb, leb}
-use lib.ListN.{length, getD, drop}
-use borrow.Author.Tests.{eq-eqb, ne-eqb, lt-leb, le-leb}
-use Rattle.lexical.specs.Text.{byte, bytes, none, first}
+use lib.ListN.{length, getD, take, drop}
+use borrow.Author.Tests.{eqb-true, eq-eqb, ne-eqb, lt-leb, le-leb}
+use Rattle.lexical.specs.Text.{byte, bytes, none, first, run}
 use Rattle.lexical.specs.Byte.{isLetter, isSpaceOrTab, isLineEndingByte, isWhitespace}
 use Rattle.lexical.specs.Name.{cdataPrefix}
-use Rattle.lexical.specs.Line.{atLineEnd}
+use Rattle.lexical.specs.Line.{lineLength, atLineEnd}
 use Rattle.lexical.proofs.Cases.{split, excluded, and-yes}
 use Rattle.lexical.proofs.Suffix.{suffix-in, suffix-out, first-in}
 use Rattle.rules.specs.Search.{choose, begins, past, exactly}
 use Rattle.rules.specs.Tag.{blockTags, attributes}
 use Rattle.rules.specs.Block.{nameOf, afterName, fillsLine, mayStart, kindAt, kindOf, indentation}
-use Rattle.rules.specs.Lines.{Line}
+use Rattle.rules.specs.Lines.{Line, line}
 use Rattle.rules.specs.declared.Rules.{Rules}
+use Rattle.rules.proofs.Cut.{space-apart}
 use Rattle.flow.specs.CompleteMachine.{runOf}
 use Rattle.flow.specs.OpenMachine.{isNameBreak, selfClosingOf, completesOf, completeOf, tagNameOf, commentOpenOf, declarationOpenOf, tagCloseStartOf, openOf}
 use Rattle.flow.specs.declared.tokenizer.StateName.the-variants.{CompleteClosingTagAfter, CompleteAttributeValueQuotedAfter}
@@ -164,6 +165,28 @@ module _ (ρ : Rules) (l : Line) where
 
   pub not-deep : indent ≤ 3 → kindOf ρ l ≡ kindAt ρ (l .flag) (drop indent (l .content))
   not-deep h = by-depth true (le-leb indent 3 h)
+
+-- ---- a text whose first byte behind spaces and tabs is not `<`
+-- nor is the first behind the indentation of its first line
+indent-first : (s : List ℕ) → eqb (first (drop (run isSpaceOrTab s) s)) (byte "<") ≡ false
+    → eqb (first (drop (indentation (take (lineLength s) s)) (take (lineLength s) s))) (byte "<") ≡ false
+unfolding run
+indent-first [] h = refl
+indent-first (x ∷ xs) h =
+    split (eqb x (byte " "))
+    (λ e. let t : eqb (first (drop (run isSpaceOrTab xs) xs)) (byte "<") ≡ false = simp e at h in simp (e, space-apart x e) (indent-first xs t))
+    (λ e. split (isLineEndingByte x) (λ r. simp r)
+    (λ r. split (eqb x (byte "\t")) (λ t. rw (eqb-true x (byte "\t") t)) (λ t. let u : eqb x (byte "<") ≡ false = simp (e, t) at h in simp (e, r, u))))
+
+module _ (ρ : Rules) (f : ℕ) where
+  unmarked : (s : List ℕ) → eqb (first s) (byte "<") ≡ false → kindAt ρ f s ≡ 0
+  unmarked [] h = nothing-opened ρ f
+  unmarked (x ∷ xs) h = not-opened ρ f x xs h
+
+  pub no-kind : (s : List ℕ) → eqb (first (drop (run isSpaceOrTab s) s)) (byte "<") ≡ false → kindOf ρ (line f [] (take (lineLength s) s)) ≡ 0
+  no-kind s h =
+      let l : Line = line f [] (take (lineLength s) s) in
+      split (leb (indent ρ l) 3) (λ e. by-depth ρ l true e ∙ unmarked (drop (indent ρ l) (l .content)) (indent-first s h)) (λ e. by-depth ρ l false e)
 
 -- ---- the CDATA prefix from a size on
 module _ (line : List ℕ) (at k : ℕ) where

@@ -47,7 +47,7 @@ use lexical::constant::is_cdata_prefix_byte;
 use lexical::constant::is_raw_name;
 use lexical::line::is_blank;
 use lexical::line::line_end;
-use lexical::line::line_ending;
+use lexical::line::next_line;
 use lexical::slice::from_indices;
 use rules::Rules;
 
@@ -767,10 +767,7 @@ fn ends_before(kind: Kind, flag: u8, line: &[u8]) -> bool
 fn continuation_start_non_lazy(bulletin: &[u8], stop: usize) -> usize
     ensures { λ r. ⌜ r ≡ lineFrom (now (bulletin .entry)) stop ⌝ }
 {
-    if stop < bulletin.len() {
-        return stop + line_ending(bulletin, stop);
-    }
-    stop
+    next_line(bulletin, stop)
 }
 
 // At the first byte of a line: its content.

@@ -21,7 +21,7 @@ pub(crate) fn flag_at(flags: &[u8], number: usize) -> u8
 }
 
 // The next line with a flag. Past the end all numbers are alike.
-pub(crate) fn next_number(flags: &[u8], number: usize) -> usize
+pub fn next_number(flags: &[u8], number: usize) -> usize
     ensures { λ r. ⌜ drop r (now (flags .entry)) ≡ drop 1 (drop number (now (flags .entry))) ⌝ }
 {
     if number < flags.len() {

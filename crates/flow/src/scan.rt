@@ -5,6 +5,7 @@ ghost use lib.ListN.{drop};
 ghost use Rattle.lexical.specs.Name.{all};
 ghost use Rattle.rules.specs.Reading.{crate as ofCrate};
 ghost use Rattle.rules.specs.Lines.{linesOf};
+ghost use Rattle.rules.specs.Refusal.{bulletinRefusal};
 ghost use Rattle.rules.specs.Scan.{blockOf, blockScan};
 ghost use Rattle.flow.specs.Answer.{blockAnswerOf};
 use crate::html_flow::Kind;
@@ -15,10 +16,12 @@ use crate::html_flow::continuation_start;
 use crate::html_flow::start;
 use crate::partial_non_lazy_continuation::flag_at;
 use crate::partial_non_lazy_continuation::next_number;
+use lexical::byte::peek;
 use lexical::constant::is_over_limit;
 use lexical::line::count_lines;
 use lexical::line::is_line_start;
 use lexical::line::line_end;
+use lexical::line::space_or_tab_end;
 use lexical::slice::from_indices;
 use rules::Rules;
 
@@ -58,10 +61,30 @@ fn are_flags(flags: &[u8]) -> bool
     true
 }
 
+// The refusal of a bulletin and its flags, whatever is scanned in it. Where nothing is refused: 0.
+pub fn bulletin_refusal(bulletin: &[u8], flags: &[u8]) -> u8
+    ensures { λ r. ⌜ r ≡ bulletinRefusal (now (bulletin .entry)) (now (flags .entry)) ⌝ }
+{
+    if is_over_limit(bulletin) {
+        return TOO_LONG;
+    }
+    if flags.len() != count_lines(bulletin) {
+        return WRONG_COUNT;
+    }
+    if !are_flags(flags) {
+        return WRONG_FLAG;
+    }
+    0
+}
+
 // The block that the line at an index opens, in any reading, with the line's number. Past the end: none.
 pub fn block_at(rules: Rules, bulletin: &[u8], flags: &[u8], index: usize, line: usize) -> Block
     ensures { λ r. ⌜ blockAnswerOf r ≡ blockOf rules index (linesOf (drop line (now (flags .entry))) (drop index (now (bulletin .entry)))) ⌝ }
 {
+    // Most lines are passed over here, without looking for their end.
+    if peek(bulletin, space_or_tab_end(bulletin, index)) != 60 {
+        return Block::Missing;
+    }
     let stop = line_end(bulletin, index);
     let content = from_indices(bulletin, index, stop);
     match start(rules, content, flag_at(flags, line)) {
@@ -79,18 +102,9 @@ pub fn block_at(rules: Rules, bulletin: &[u8], flags: &[u8], index: usize, line:
 pub fn block_scan(bulletin: &[u8], flags: &[u8], index: usize) -> Block
     ensures { λ r. ⌜ blockAnswerOf r ≡ blockScan ofCrate (now (bulletin .entry)) (now (flags .entry)) index ⌝ }
 {
-    if is_over_limit(bulletin) {
-        return Block::Refused { refusal: TOO_LONG };
-    }
-    if flags.len() != count_lines(bulletin) {
-        return Block::Refused {
-            refusal: WRONG_COUNT,
-        };
-    }
-    if !are_flags(flags) {
-        return Block::Refused {
-            refusal: WRONG_FLAG,
-        };
+    let refusal = bulletin_refusal(bulletin, flags);
+    if refusal != 0 {
+        return Block::Refused { refusal };
     }
     if !is_line_start(bulletin, index) {
         return Block::Refused {

@@ -1,15 +1,17 @@
--- Laws of line endings at an index of a text: what they are by the byte there and the one after it.
+-- Laws of line endings at an index of a text: what they are by the byte there and the one after it, and that they end within the text.
 use mathlib.Core.Path.{_≡_, refl, ap}
 use mathlib.Core.Bool.{Bool, true, false, _&&_, _||_, not}
 use mathlib.Core.List.{List, [], _∷_}
 use Prim.Native.Nat.{ℕ, zero, suc, _+_, _-_, _<_, _≤_}
 use native.Mathlib.Numerals.{sub-one}
+use native.Mathlib.Omega.{arith}
 use lib.Dec.{eqb}
-use lib.ListN.{length, getD, drop}
+use lib.ListN.{length, getD, drop, length-drop}
 use lib.Seq.{drop-drop}
 use Rattle.lexical.specs.Text.{byte, pick, first, run}
 use Rattle.lexical.specs.Byte.{isSpaceOrTab, isLineEndingByte}
 use Rattle.lexical.specs.Line.{lineEnding, endsLine, lineEndings, isLineStart, atLineEnd, isBlank}
+use Rattle.lexical.proofs.Cases.{split}
 use Rattle.lexical.proofs.Suffix.{suffix-in, suffix-out}
 
 module _ (s : List ℕ) (i : ℕ) where
@@ -43,6 +45,20 @@ module _ (s : List ℕ) (i : ℕ) where
   unfolding lineEndings
   count-out h = rw (suffix-out s i h)
 
+-- ---- sizes
+pub ending-length : (s : List ℕ) → lineEnding s ≤ length s
+unfolding lineEnding
+ending-length [] = omega arith
+ending-length (x ∷ []) = split (eqb x (byte "\n")) (λ h. simp h (omega arith)) (λ h. split (eqb x (byte "\r")) (λ r. simp (h, r) (omega arith)) (λ r. simp (h, r) (omega arith)))
+ending-length (x ∷ y ∷ ys) =
+    split (eqb x (byte "\n")) (λ h. simp h (omega arith))
+    (λ h. split (eqb x (byte "\r")) (λ r. split (eqb y (byte "\n")) (λ l. simp (h, r, l) (omega arith)) (λ l. simp (h, r, l) (omega arith))) (λ r. simp (h, r) (omega arith)))
+
+-- an ending at an index of a text ends within it
+pub ending-within : (s : List ℕ) (i : ℕ) → i ≤ length s → i + lineEnding (drop i s) ≤ length s
+ending-within s i h = omega (arith, ending-length (drop i s), length-drop i s)
+
+-- ---- line starts and blank lines
 -- an index but 0 is a line's first byte where a line ends just before it
 pub start-after : (s : List ℕ) (i : ℕ) → (i ≡ 0 → ⊥) → isLineStart s i ≡ endsLine (drop (i - 1) s)
 unfolding isLineStart

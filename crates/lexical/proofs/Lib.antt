@@ -2,6 +2,7 @@ pub mod Cases
 pub mod Suffix
 pub mod Run
 pub mod Ending
+pub mod Stores
 pub mod Moves
 pub mod Readings
 pub mod Bounds

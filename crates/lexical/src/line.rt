@@ -29,6 +29,16 @@ pub fn line_ending(bytes: &[u8], index: usize) -> usize
     0
 }
 
+// Past the line ending at an index. Where none stands: the index.
+pub fn next_line(bytes: &[u8], index: usize) -> usize
+    ensures { λ r. ⌜ r ≡ index + lineEnding (drop index (now (bytes .entry))) ⌝ }
+{
+    if index < bytes.len() {
+        return index + line_ending(bytes, index);
+    }
+    index
+}
+
 // Whether the byte at an index ends a line.
 pub fn ends_line(bytes: &[u8], index: usize) -> bool
     ensures { λ r. ⌜ r ≡ endsLine (drop index (now (bytes .entry))) ⌝ }

@@ -13,6 +13,7 @@ use Rattle.lexical.specs.Byte.{isSpaceOrTab, isLineEndingByte}
 use Rattle.lexical.specs.Line.{lineEnding, lineLength}
 use Rattle.lexical.proofs.Cases.{split, or-left, or-right}
 use Rattle.lexical.proofs.Run.{run-length}
+use Rattle.lexical.proofs.Ending.{ending-length, ending-within}
 use Rattle.rules.specs.Search.{choose}
 use Rattle.rules.specs.Lines.{Line, line, push, cutLines}
 
@@ -38,14 +39,6 @@ cut-first e (x ∷ xs) =
     (λ r. simp (h, r) (ap (push x) (cut-first e xs))))
 
 -- ---- sizes
-pub ending-length : (s : List ℕ) → lineEnding s ≤ length s
-unfolding lineEnding
-ending-length [] = omega arith
-ending-length (x ∷ []) = split (eqb x (byte "\n")) (λ h. simp h (omega arith)) (λ h. split (eqb x (byte "\r")) (λ r. simp (h, r) (omega arith)) (λ r. simp (h, r) (omega arith)))
-ending-length (x ∷ y ∷ ys) =
-    split (eqb x (byte "\n")) (λ h. simp h (omega arith))
-    (λ h. split (eqb x (byte "\r")) (λ r. split (eqb y (byte "\n")) (λ l. simp (h, r, l) (omega arith)) (λ l. simp (h, r, l) (omega arith))) (λ r. simp (h, r) (omega arith)))
-
 -- the bytes of a line
 pub content-length : (s : List ℕ) → length (take (lineLength s) s) ≡ lineLength s
 content-length s = length-take-le (lineLength s) s (run-length (λ b. not (isLineEndingByte b)) s)
@@ -89,11 +82,8 @@ module _ (s : List ℕ) (i : ℕ) where
       (cut-first (take (lineEnding (drop i s)) (drop i s)) (drop lineFrom s)
       ∙ ap (λ t. line 0 (take (lineEnding (drop i s)) (drop i s)) (take (lineLength (drop lineFrom s)) (drop lineFrom s)) ∷ behind t) (drop-drop (lineLength (drop lineFrom s)) lineFrom s))
 
-  pub from-within : i ≤ length s → lineFrom ≤ length s
-  from-within h = omega (arith, ending-length (drop i s), length-drop i s)
-
   pub to-within : i ≤ length s → lineTo ≤ length s
-  to-within h = let l = from-within h in omega (arith, run-length (λ b. not (isLineEndingByte b)) (drop lineFrom s), length-drop lineFrom s)
+  to-within h = let l = ending-within s i h in omega (arith, run-length (λ b. not (isLineEndingByte b)) (drop lineFrom s), length-drop lineFrom s)
 
   pub lead-length : length (take (lineEnding (drop i s)) (drop i s)) ≡ lineEnding (drop i s)
   lead-length = length-take-le (lineEnding (drop i s)) (drop i s) (ending-length (drop i s))

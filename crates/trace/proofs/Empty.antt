@@ -14,7 +14,7 @@ use Rattle.lexical.specs.Line.{lineEnding}
 use Rattle.lexical.proofs.Cases.{split}
 use Rattle.rules.specs.Lines.{Line, line, push, cutLines}
 use Rattle.rules.specs.Trace.{endsEmpty, taken, flowExit}
-use Rattle.rules.proofs.Cut.{ending-length}
+use Rattle.lexical.proofs.Ending.{ending-length}
 
 push-length : (x : ℕ) (ls : List Line) → length (push x ls) ≡ length ls
 push-length x [] = refl

@@ -11,10 +11,12 @@ use Rattle.lexical.specs.declared.event.Point.{Point}
 use Rattle.lexical.proofs.Moves.{point-on}
 use Rattle.lexical.proofs.Bounds.{Fit, point-fits}
 use Rattle.rules.specs.Trace.{Event, event, pair, width, pointBytes, eventBytes}
-use Rattle.trace.specs.Writing.{Written, eventLength}
+use Rattle.lexical.specs.Buffer.{Written}
+use Rattle.trace.specs.Writing.{eventLength}
 use Rattle.trace.specs.Walk.{Ready, Marked}
 use Rattle.trace.specs.declared.events.Pen.{Pen}
-use Rattle.trace.proofs.Stores.{field-length, then, nothing-written}
+use Rattle.lexical.proofs.Stores.{then, nothing-written}
+use Rattle.trace.proofs.Stores.{field-length}
 
 -- ---- bytes of events
 point-length : (p : Point) → length (pointBytes p) ≡ 7

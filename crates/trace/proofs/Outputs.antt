@@ -5,17 +5,20 @@ use mathlib.Core.List.{List, _++_}
 use Prim.Native.Nat.{ℕ, _+_, _*_, _<_, _≤_}
 use native.Mathlib.Omega.{arith}
 use lib.ListN.{length, length-append}
-use borrow.Author.Tests.{lt-ltb, le-ltb, ne-eqb}
+use borrow.Author.Tests.{ne-eqb}
 use Rattle.rules.specs.Reading.{crate as ofCrate}
 use Rattle.rules.specs.Scan.{InlineAnswer, foundInline, noInline, refusedInline, inlineScan, BlockAnswer, foundBlock, noBlock, refusedBlock, blockScan}
-use Rattle.rules.specs.Refusal.{refusal, inlineRefusal, blockRefusal, outputRefusal}
+use Rattle.rules.specs.Refusal.{inlineRefusal, blockRefusal, outputRefusal}
 use Rattle.rules.specs.Trace.{Event, eventBytes, lastBytes, width, inlineTrace, blockTrace}
 use Rattle.rules.specs.Withhold.{written}
+use Rattle.rules.proofs.Refusals.{output-first, output-short, output-fits}
 use Rattle.trace.specs.Answer.{traced, tracedOf, traceAnswer, inlineTraceRefusal, inlineTraced, inlineBuffer, blockTraceRefusal, blockTraced, blockBuffer, Traces}
-use Rattle.trace.specs.Writing.{Written, eventLength, lastLength}
+use Rattle.lexical.specs.Buffer.{Written}
+use Rattle.trace.specs.Writing.{eventLength, lastLength}
 use Rattle.trace.specs.declared.tracer.Traced.{Traced}
 use Rattle.trace.specs.declared.tracer.Traced.the-variants.{Length, Refused}
-use Rattle.trace.proofs.Stores.{from-front, field-length}
+use Rattle.lexical.proofs.Stores.{from-front}
+use Rattle.trace.proofs.Stores.{field-length}
 use Rattle.trace.proofs.Marks.{events-length}
 
 -- ---- lengths
@@ -28,32 +31,20 @@ trace-length text es kind stop n = omega (arith, length-append (eventBytes text 
 
 -- ---- what is answered
 module _ (trace old : List ℕ) where
-  too-short : length old < length trace → outputRefusal 0 (length old) trace ≡ 7
-  unfolding outputRefusal refusal
-  too-short h = rw (lt-ltb (length old) (length trace) h)
-
-  fits : length trace ≤ length old → outputRefusal 0 (length old) trace ≡ 0
-  unfolding outputRefusal refusal
-  fits h = rw (le-ltb (length old) (length trace) h)
-
   pub not-traced : length old < length trace → Traces (outputRefusal 0 (length old) trace) trace old (Refused 7) old
   unfolding traceAnswer written
-  not-traced h = record { answer = rw (too-short h); buffer = rw (too-short h) }
+  not-traced h = record { answer = rw (output-short (length old) trace h); buffer = rw (output-short (length old) trace h) }
 
   pub is-traced : {new : List ℕ} (n : ℕ) → n ≡ length trace → n ≤ length old → Written old 0 trace new → Traces (outputRefusal 0 (length old) trace) trace old (Length n) new
   unfolding traceAnswer written
   is-traced n e h w =
       let f : length trace ≤ length old = omega arith in
-      record { answer = rw (fits f) (ap traced e); buffer = w .is ∙ from-front trace old f ∙ rw (fits f) }
+      record { answer = rw (output-fits (length old) trace f) (ap traced e); buffer = w .is ∙ from-front trace old f ∙ rw (output-fits (length old) trace f) }
 
 -- a refusal of the scan comes first
-refused-first : (n room : ℕ) (trace : List ℕ) → (n ≡ 0 → ⊥) → outputRefusal n room trace ≡ n
-unfolding outputRefusal refusal
-refused-first n room trace h = rw (ne-eqb n 0 h)
-
 scan-refused : (n : ℕ) (trace old : List ℕ) → (n ≡ 0 → ⊥) → Traces (outputRefusal n (length old) trace) trace old (Refused n) old
 unfolding traceAnswer written
-scan-refused n trace old h = record { answer = rw (refused-first n (length old) trace h, ne-eqb n 0 h); buffer = rw (refused-first n (length old) trace h, ne-eqb n 0 h) }
+scan-refused n trace old h = record { answer = rw (output-first n (length old) trace h, ne-eqb n 0 h); buffer = rw (output-first n (length old) trace h, ne-eqb n 0 h) }
 
 -- ---- by the answer of the inline scan
 module _ (text : List ℕ) (i k : ℕ) (old : List ℕ) where

@@ -9,10 +9,11 @@ use Rattle.lexical.specs.Line.{lineEnding}
 use Rattle.lexical.specs.Point.{pointAt}
 use Rattle.rules.specs.Trace.{Event, eventBytes}
 use Rattle.rules.proofs.Cut.{lineTo, to-within}
-use Rattle.trace.specs.Writing.{stored, eventLength}
+use Rattle.lexical.specs.Buffer.{stored}
+use Rattle.trace.specs.Writing.{eventLength}
 use Rattle.trace.specs.Walk.{lineEvents, restEvents, Marked}
 use Rattle.trace.specs.declared.events.Pen.{Pen}
-use Rattle.trace.proofs.Stores.{stores, same}
+use Rattle.lexical.proofs.Stores.{stores, same}
 use Rattle.trace.proofs.Marks.{events-length, events-append}
 use Rattle.trace.proofs.Walks.{rest-one, rest-none}
 

@@ -12,7 +12,8 @@ use Rattle.rules.specs.Search.{choose}
 use Rattle.rules.specs.Block.{indentation}
 use Rattle.rules.specs.Trace.{Event, event, htmlText, htmlFlow, pair, pairOf, lineEndingKind, spaceOrTab, htmlTextData, htmlFlowData, textLines, flowLines, eventBytes}
 use Rattle.rules.proofs.Cut.{behind, lineFrom, lineTo}
-use Rattle.trace.specs.Writing.{Written, eventLength}
+use Rattle.lexical.specs.Buffer.{Written}
+use Rattle.trace.specs.Writing.{eventLength}
 use Rattle.trace.specs.declared.events.Pen.{Pen}
 
 -- of the ending at i of s and the line behind it, inline: the ending, leading spaces or tabs, and the data

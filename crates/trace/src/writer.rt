@@ -3,7 +3,8 @@ ghost use mathlib.Core.List.{_∷_};
 ghost use Prim.Native.Nat.{_+_, _*_, _<_, _≤_};
 ghost use lib.ListN.{length};
 ghost use Rattle.rules.specs.Trace.{field, pointBytes, lastBytes};
-ghost use Rattle.trace.specs.Writing.{Written, eventLength, lastLength};
+ghost use Rattle.lexical.specs.Buffer.{Written};
+ghost use Rattle.trace.specs.Writing.{eventLength, lastLength};
 use crate::reader::WIDTH;
 use lexical::event::Point;
 

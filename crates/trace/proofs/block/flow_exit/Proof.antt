@@ -2,7 +2,7 @@ use mathlib.Core.Path.{sym, _∙_, ap}
 use Prim.Native.Nat.{_+_}
 use native.Mathlib.Omega.{arith}
 use lib.ListN.{drop, length-drop}
-use Rattle.rules.proofs.Cut.{ending-length}
+use Rattle.lexical.proofs.Ending.{ending-length}
 use Rattle.trace.proofs.Empty.{exit-late, exit-closed, exit-far, exit-near}
 use borrow.Author.Needs.{needs}
 use Rattle.trace.proofs.block.flow_exit.Statement.{statement}

@@ -1,7 +1,7 @@
 -- One marking after the other, each where the one before left the pen; together they are the events of the block. There is room for each, because there is for all.
 use mathlib.Core.Path.{refl, _∙_}
 use native.Mathlib.Omega.{arith}
-use Rattle.trace.proofs.Stores.{same}
+use Rattle.lexical.proofs.Stores.{same}
 use Rattle.trace.proofs.Marks.{and-then, ready-on, renamed}
 use Rattle.trace.proofs.Pieces.{ready-start, from-start, first-within, indent-within, flow-piece, flow-piece-count}
 use borrow.Author.Needs.{needs}

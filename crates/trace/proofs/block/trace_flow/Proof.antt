@@ -5,7 +5,7 @@ use mathlib.Core.List.{_++_}
 use lib.ListN.{length}
 use Rattle.rules.specs.Trace.{eventBytes, lastBytes}
 use Rattle.trace.specs.Walk.{flowPiece}
-use Rattle.trace.proofs.Stores.{written-as}
+use Rattle.lexical.proofs.Stores.{written-as}
 use Rattle.trace.proofs.Outputs.{not-traced, is-traced}
 use Rattle.trace.proofs.Empty.{exit-from, exit-to}
 use Rattle.trace.proofs.Pieces.{front-length, flow-trace, flow-size, flow-trace-length}

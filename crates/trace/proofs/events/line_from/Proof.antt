@@ -1,5 +1,5 @@
 use native.Mathlib.Omega.{arith}
-use Rattle.rules.proofs.Cut.{from-within}
+use Rattle.lexical.proofs.Ending.{ending-within}
 use borrow.Author.Needs.{needs}
 use Rattle.trace.proofs.events.line_from.Statement.{statement}
 use Rattle.trace.proofs.events.line_from.Tie as tie
@@ -8,7 +8,7 @@ line-ending-requires : tie.Need-line-ending-requires
 line-ending-requires c κs = search needs
 
 add-result : tie.Need-add-result
-add-result c = omega (arith, c .line-ending .ensures, from-within (c .before .before .args .front .now) (c .before .before .args .index) (c .before .before .pre))
+add-result c = omega (arith, c .line-ending .ensures, ending-within (c .before .before .args .front .now) (c .before .before .args .index) (c .before .before .pre))
 
 returns : tie.Need-returns
 returns c = search needs

@@ -2,7 +2,7 @@
 use Rattle.trace.proofs.Marks.{and-then, ready-on, renamed}
 use mathlib.Core.Path.{_∙_}
 use native.Mathlib.Omega.{arith}
-use Rattle.trace.proofs.Stores.{same}
+use Rattle.lexical.proofs.Stores.{same}
 use Rattle.trace.proofs.Walks.{to-is, flow-order, flow-is, flow-count}
 use borrow.Author.Needs.{needs}
 use Rattle.trace.proofs.events.mark_flow_line.Statement.{statement}

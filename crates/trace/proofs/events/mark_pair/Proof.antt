@@ -1,6 +1,6 @@
 use Rattle.trace.proofs.Marks.{marked-pair, ready-on}
 use native.Mathlib.Omega.{arith}
-use Rattle.trace.proofs.Stores.{same}
+use Rattle.lexical.proofs.Stores.{same}
 use borrow.Author.Needs.{needs}
 use Rattle.trace.proofs.events.mark_pair.Statement.{statement}
 use Rattle.trace.proofs.events.mark_pair.Tie as tie

@@ -1,6 +1,6 @@
 -- The length that was counted is that of the trace, so the check against the buffer is that of 7, and behind it there is room.
 use native.Mathlib.Omega.{arith}
-use Rattle.trace.proofs.Stores.{written-as}
+use Rattle.lexical.proofs.Stores.{written-as}
 use Rattle.trace.proofs.Outputs.{not-traced, is-traced}
 use Rattle.trace.proofs.Pieces.{front-length, text-trace, text-size, text-trace-length}
 use borrow.Author.Needs.{needs}

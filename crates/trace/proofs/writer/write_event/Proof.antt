@@ -1,7 +1,8 @@
 -- Each field is stored behind the one before, and storing keeps the length, so there is room for each.
 use mathlib.Core.Path.{_∙_}
 use native.Mathlib.Omega.{arith}
-use Rattle.trace.proofs.Stores.{same-set, same, event-steps}
+use Rattle.lexical.proofs.Stores.{same-set, same}
+use Rattle.trace.proofs.Stores.{event-steps}
 use borrow.Author.Needs.{needs}
 use Rattle.trace.proofs.writer.write_event.Statement.{statement}
 use Rattle.trace.proofs.writer.write_event.Tie as tie

@@ -1,9 +1,10 @@
-use Rattle.trace.proofs.Stores.{field-turn, field-end, field-start, same-set}
+use Rattle.lexical.proofs.Stores.{same-set}
+use Rattle.trace.proofs.Stores.{field-turn, field-end, field-start}
 -- The invariant: the rest stored from here on gives the whole.
 use Prim.Native.Nat.{_+_, _-_}
 use mathlib.Core.Path.{_≡_, refl, sym, _∙_}
 use lib.ListN.{length}
-use Rattle.trace.specs.Writing.{stored}
+use Rattle.lexical.specs.Buffer.{stored}
 use Rattle.rules.specs.Trace.{field}
 use borrow.Author.Needs.{needs}
 use Rattle.trace.proofs.writer.write_field.Statement.{statement}

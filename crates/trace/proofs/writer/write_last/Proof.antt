@@ -1,6 +1,7 @@
 use mathlib.Core.Path.{_∙_}
 use native.Mathlib.Omega.{arith}
-use Rattle.trace.proofs.Stores.{same-set, same, last-steps}
+use Rattle.lexical.proofs.Stores.{same-set, same}
+use Rattle.trace.proofs.Stores.{last-steps}
 use borrow.Author.Needs.{needs}
 use Rattle.trace.proofs.writer.write_last.Statement.{statement}
 use Rattle.trace.proofs.writer.write_last.Tie as tie
