@@ -14,3 +14,4 @@ pub mod PrivateLines
 pub mod Covered
 pub mod LineRuns
 pub mod TwoRuns
+pub mod Ordered

@@ -138,7 +138,7 @@ flagged-append fs [] b = refl
 flagged-append [] (l ∷ ls) b = rw (no-flags b)
 flagged-append (f ∷ fs) (l ∷ ls) b = rw (flagged-append fs ls b)
 
-flagged-size : (fs : List ℕ) (a : List Line) → sizes (flagged fs a) ≡ sizes a
+pub flagged-size : (fs : List ℕ) (a : List Line) → sizes (flagged fs a) ≡ sizes a
 unfolding flagged
 flagged-size fs [] = refl
 flagged-size [] (l ∷ ls) = refl
