@@ -159,7 +159,7 @@ module _ (ρ : Rules) where
   unfolding rawHtml htmlTag openTag closingTag comment instruction declaration
   cut-short k = (refl, refl, refl)
 
-  not-opened : (k x : ℕ) (xs : List ℕ) → eqb x (byte "<") ≡ false → rawHtml ρ k (x ∷ xs) ≡ lacks k
+  pub not-opened : (k x : ℕ) (xs : List ℕ) → eqb x (byte "<") ≡ false → rawHtml ρ k (x ∷ xs) ≡ lacks k
   unfolding rawHtml htmlTag openTag closingTag comment instruction declaration
   not-opened k x xs e = simp e
 
@@ -169,7 +169,7 @@ module _ (ρ : Rules) where
   or-nothing nothing = refl
 
   -- behind `<!-`
-  comment-tag : (s : List ℕ) → htmlTag ρ (bytes "<!-" ++ s) ≡ comment (bytes "<!-" ++ s)
+  pub comment-tag : (s : List ℕ) → htmlTag ρ (bytes "<!-" ++ s) ≡ comment (bytes "<!-" ++ s)
   unfolding htmlTag openTag closingTag instruction declaration
   comment-tag s = or-nothing (comment (bytes "<!-" ++ s))
 
@@ -181,7 +181,7 @@ module _ (ρ : Rules) where
       (split (eqb x (byte "-")) (λ e. rw (eqb-true x (byte "-") e) (comment-seen xs k)) (λ e. simp e))
 
   -- behind `<!` and a byte that is neither `-` nor `[`
-  declaration-tag : (k x : ℕ) (xs : List ℕ) → eqb x (byte "-") ≡ false → eqb x (byte "[") ≡ false
+  pub declaration-tag : (k x : ℕ) (xs : List ℕ) → eqb x (byte "-") ≡ false → eqb x (byte "[") ≡ false
       → rawHtml ρ k (bytes "<!" ++ (x ∷ xs)) ≡ carrying k (choose (isLetter x) (λ _. throughFirst (bytes ">") xs) (λ _. nothing))
   unfolding rawHtml htmlTag openTag closingTag instruction declaration
   declaration-tag k x xs e f = rw (comment-is, e, f)
@@ -205,7 +205,7 @@ module _ (ρ : Rules) where
   close-start-is (x ∷ xs) k = rw close-tag (split (isLetter x) (λ e. simp e (close-tag-is ρ k xs)) (λ e. simp e))
 
   -- behind `<?`
-  instruction-tag : (k : ℕ) (s : List ℕ) → rawHtml ρ k (bytes "<?" ++ s) ≡ carrying k (throughFirst (bytes "?>") s)
+  pub instruction-tag : (k : ℕ) (s : List ℕ) → rawHtml ρ k (bytes "<?" ++ s) ≡ carrying k (throughFirst (bytes "?>") s)
   unfolding rawHtml htmlTag openTag closingTag instruction declaration
   instruction-tag k s = rw comment-is (ap (carrying k) (or-nothing (throughFirst (bytes "?>") s)))
 

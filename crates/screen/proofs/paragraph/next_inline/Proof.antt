@@ -1,0 +1,66 @@
+use mathlib.Core.Path.{refl, subst}
+use Prim.Native.Nat.{_-_}
+use native.Mathlib.Omega.{arith}
+use lib.ListN.{length}
+use Rattle.screen.specs.Remaining.{Attempt}
+use Rattle.screen.proofs.InlineSteps.{AtOpening, to-opening, onward, past-opening, none-left}
+use borrow.Author.Needs.{needs}
+use Rattle.screen.proofs.paragraph.next_inline.Statement.{statement}
+use Rattle.screen.proofs.paragraph.next_inline.Tie as tie
+
+abbrev Inv-loop : tie.InvT-loop
+Inv-loop rules text index known₀ start₀ known start = AtOpening rules text index start known
+
+abbrev μ-loop : tie.MeasureT-loop
+μ-loop rules text index known₀ start₀ known start = length text - start
+
+next-open-requires : tie.Need-next-open-requires Inv-loop μ-loop
+next-open-requires c κs = search needs
+
+loop-holds : tie.Need-loop-holds Inv-loop μ-loop
+loop-holds c = let a = c .before .before .args in to-opening (a .rules) (a .text .now) (a .index) (a .index) _ (a .closers) (c .before .before .pre .0) refl (c .before .before .pre .1) (c .next-open .ensures)
+
+attempt-requires : tie.Need-attempt-requires Inv-loop μ-loop
+attempt-requires c κs = (c .loop-test .taken, c .before .loop .inv .known)
+
+enum-known-stop : tie.Need-enum-known-stop Inv-loop μ-loop
+enum-known-stop c = search needs
+
+returns : tie.Need-returns Inv-loop μ-loop
+returns c = let a = c .before .before .before .before .before .before .before .before .args in onward (a .rules) (a .text .now) (a .index) _ _ (c .before .before .before .before .before .loop .inv) (c .before .before .before .before .loop-test .taken) _ (subst (Attempt (a .rules) (a .text .now) (c .before .before .before .before .before .loop .start)) (c .before .stop .given .1) (c .before .before .before .attempt .ensures))
+
+enum-known-left : tie.Need-enum-known-left Inv-loop μ-loop
+enum-known-left c = search needs
+
+add-next-open : tie.Need-add-next-open Inv-loop μ-loop
+add-next-open c = search needs
+
+next-open-requires-2 : tie.Need-next-open-requires-2 Inv-loop μ-loop
+next-open-requires-2 c κs = search needs
+
+loop-less : tie.Need-loop-less Inv-loop μ-loop
+loop-less c = let h = c .next-open2 .ensures in search (needs, h)
+
+loop-again : tie.Need-loop-again Inv-loop μ-loop
+loop-again c = let a = c .before .before .before .before .before .before .before .before .before .args in past-opening (a .rules) (a .text .now) (a .index) _ _ (c .before .before .before .before .before .before .loop .inv) (c .before .before .before .before .before .loop-test .taken) _ (subst (Attempt (a .rules) (a .text .now) (c .before .before .before .before .before .before .loop .start)) (c .before .before .left .given .1) (c .before .before .before .before .attempt .ensures)) _ (c .next-open2 .ensures)
+
+returns-2 : tie.Need-returns-2 Inv-loop μ-loop
+returns-2 c = let a = c .before .before .before .before .args in none-left (a .rules) (a .text .now) (a .index) _ _ (c .before .loop .inv) (c .loop-test .left)
+
+pub next-inline-spec : {M : Type 1} → statement M
+next-inline-spec =
+    tie.close
+    (tie.spec
+    Inv-loop
+    μ-loop
+    next-open-requires
+    loop-holds
+    attempt-requires
+    enum-known-stop
+    returns
+    enum-known-left
+    add-next-open
+    next-open-requires-2
+    loop-less
+    loop-again
+    returns-2)

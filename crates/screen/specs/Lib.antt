@@ -1,0 +1,4 @@
+pub mod Closer
+pub mod Remaining
+pub mod Answer
+pub mod Both

@@ -1,0 +1,6 @@
+// Withholding raw HTML from a bulletin: 01, Withhold.
+pub mod both;
+mod closers;
+mod paragraph;
+mod pieces;
+pub mod withhold;

@@ -1,0 +1,129 @@
+// Withholding: 01, Withhold.
+ghost use mathlib.Core.Path.{_≡_};
+ghost use Prim.Native.Nat.{_≤_};
+ghost use lib.Dec.{leb};
+ghost use lib.ListN.{length};
+ghost use Rattle.rules.specs.Reading.{crate as ofCrate};
+ghost use Rattle.rules.specs.Withhold.{shown, count, withhold as withholdOf, withholdRefusal, written};
+ghost use Rattle.screen.specs.Answer.{shownOf};
+ghost use Rattle.screen.specs.Remaining.{Shows};
+use crate::pieces::Next;
+use crate::pieces::at_line;
+use crate::pieces::next_piece;
+use flow::scan::bulletin_refusal;
+use lexical::copy::copy_part;
+use rules::Rules;
+
+// 01, Where each refusal is met.
+const NO_ROOM: u8 = 7;
+
+// The shown length and the number of pieces withheld, or a refusal.
+pub enum Withheld {
+    Shown { length: usize, pieces: usize },
+    Refused { refusal: u8 },
+}
+
+// How many bytes are shown.
+fn shown_length(rules: Rules, bulletin: &[u8], flags: &[u8]) -> usize
+    ensures { λ r. ⌜ r ≡ length (shown rules (now (bulletin .entry)) (now (flags .entry))) ⌝ }
+{
+    let mut cursor = at_line(0, 0);
+    let mut from = 0;
+    let mut size = 0;
+    while from < bulletin.len() {
+        match next_piece(rules, bulletin, flags, cursor) {
+            Next::Piece {
+                start,
+                stop,
+                cursor: behind,
+            } => {
+                size += start - from;
+                from = stop;
+                cursor = behind;
+            }
+            Next::End => {
+                size += bulletin.len() - from;
+                from = bulletin.len();
+            }
+        }
+    }
+    size
+}
+
+// Writes what is shown to the front of a buffer that has room for it.
+fn show(rules: Rules, bulletin: &[u8], flags: &[u8], out: &mut [u8]) -> Withheld
+    requires { ⌜ length (shown rules (now bulletin) (now flags)) ≤ length (now out) ⌝ }
+    ensures { λ r. ⌜ Shows (shown rules (now (bulletin .entry)) (now (flags .entry))) (count rules (now (bulletin .entry)) (now (flags .entry))) (now (out .entry)) r (now (out .exit)) ⌝ }
+{
+    let mut cursor = at_line(0, 0);
+    let mut from = 0;
+    let mut size = 0;
+    let mut pieces = 0;
+    while from < bulletin.len() {
+        match next_piece(rules, bulletin, flags, cursor) {
+            Next::Piece {
+                start,
+                stop,
+                cursor: behind,
+            } => {
+                copy_part(bulletin, from, start, out, size);
+                size += start - from;
+                pieces += 1;
+                from = stop;
+                cursor = behind;
+            }
+            Next::End => {
+                copy_part(bulletin, from, bulletin.len(), out, size);
+                size += bulletin.len() - from;
+                from = bulletin.len();
+            }
+        }
+    }
+    Withheld::Shown {
+        length: size,
+        pieces,
+    }
+}
+
+// Whether a buffer has room for what is shown. Where it has room for the whole bulletin, nothing is counted.
+fn has_room(rules: Rules, bulletin: &[u8], flags: &[u8], room: usize) -> bool
+    ensures { λ r. ⌜ r ≡ leb (length (shown rules (now (bulletin .entry)) (now (flags .entry)))) room ⌝ }
+{
+    if bulletin.len() <= room {
+        return true;
+    }
+    shown_length(rules, bulletin, flags) <= room
+}
+
+// Shows a bulletin without its raw HTML, in any reading.
+fn withhold_by(rules: Rules, bulletin: &[u8], flags: &[u8], out: &mut [u8]) -> Withheld
+    ensures { λ r. ⌜ shownOf r ≡ withholdOf rules (now (bulletin .entry)) (now (flags .entry)) (length (now (out .entry))) ⌝ }
+    ensures { λ r. ⌜ now (out .exit) ≡ written (withholdRefusal rules (now (bulletin .entry)) (now (flags .entry)) (length (now (out .entry)))) (shown rules (now (bulletin .entry)) (now (flags .entry))) (now (out .entry)) ⌝ }
+{
+    let refusal = bulletin_refusal(bulletin, flags);
+    if refusal != 0 {
+        return Withheld::Refused { refusal };
+    }
+    if !has_room(rules, bulletin, flags, out.len()) {
+        return Withheld::Refused { refusal: NO_ROOM };
+    }
+    show(rules, bulletin, flags, out)
+}
+
+// Shows a bulletin without its raw HTML, with all eight changes.
+pub fn withhold(bulletin: &[u8], flags: &[u8], out: &mut [u8]) -> Withheld
+    ensures { λ r. ⌜ shownOf r ≡ withholdOf ofCrate (now (bulletin .entry)) (now (flags .entry)) (length (now (out .entry))) ⌝ }
+    ensures { λ r. ⌜ now (out .exit) ≡ written (withholdRefusal ofCrate (now (bulletin .entry)) (now (flags .entry)) (length (now (out .entry)))) (shown ofCrate (now (bulletin .entry)) (now (flags .entry))) (now (out .entry)) ⌝ }
+{
+    let all = Rules {
+        f1: true,
+        f2: true,
+        f3: true,
+        f4: true,
+        f5: true,
+        f6: true,
+        t1: true,
+        t2: true,
+    };
+    withhold_by(all, bulletin, flags, out)
+}
