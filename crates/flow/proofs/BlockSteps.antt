@@ -17,23 +17,13 @@ use Rattle.rules.specs.Block.{Extent, extent, oneMore, endsBefore, closes, goes
 use Rattle.rules.specs.Scan.{BlockAnswer, foundBlock, noBlock, blockAnswer, blockOf}
 use Rattle.rules.specs.declared.Rules.{Rules}
 use Rattle.rules.proofs.Cut.{behind, behind-none, behind-one, cut-first, content-length, lead-length, to-within, lineFrom, lineTo}
+use Rattle.rules.proofs.LineLaws.{contentFrom, stopFrom, stop-is, first-line, next-lines}
 use Rattle.flow.specs.Answer.{kindNumber}
 use Rattle.flow.specs.declared.html_flow.Kind.{Kind}
 use Rattle.flow.specs.declared.html_flow.Kind.the-variants.{Raw, Comment, Instruction, Declaration, Cdata, Basic, Complete}
-use Rattle.flow.specs.BlockMachine.{stopFrom, wentOn, contentFrom, continuationStartOf}
+use Rattle.flow.specs.BlockMachine.{wentOn, continuationStartOf}
 
 -- ---- flags
-no-flags : (ls : List Line) → flagged [] ls ≡ ls
-unfolding flagged
-no-flags [] = refl
-no-flags (l ∷ ls) = refl
-
--- the first line has the first flag, or 0
-pub flag-first : (fs e c : List ℕ) (ls : List Line) → flagged fs (line 0 e c ∷ ls) ≡ line (getD fs 0 0) e c ∷ flagged (drop 1 fs) ls
-unfolding flagged
-flag-first [] e c ls = ap (λ t. line 0 e c ∷ t) (sym (no-flags ls))
-flag-first (f ∷ fs) e c ls = refl
-
 -- all flags from an index on
 module _ (f : ℕ → Bool) (s : List ℕ) (i : ℕ) where
   pub all-in : (t : Bool) → i < length s → f (getD s i 0) ≡ t → all f (drop i s) ≡ (t && all f (drop (i + 1) s))
@@ -43,13 +33,6 @@ module _ (f : ℕ → Bool) (s : List ℕ) (i : ℕ) where
   pub all-out : length s ≤ i → all f (drop i s) ≡ true
   unfolding all
   all-out h = rw (suffix-out s i h)
-
--- ---- where n lines end
-pub stop-is : (n i : ℕ) (l : Line) (ls : List Line) → stopAfter i (suc n) (l ∷ ls) ≡ stopFrom (i + length (l .content)) n ls
-unfolding stopAfter stopFrom
-stop-is zero i l ls = refl
-stop-is (suc n) i l [] = refl
-stop-is (suc n) i l (m ∷ ls) = stop-is n (i + length (l .content) + length (m .lead)) m ls
 
 -- ---- the next line of an open block
 module _ (ρ : Rules) (k : ℕ) where
@@ -101,8 +84,7 @@ module _ (ρ : Rules) (k : ℕ) (s flags : List ℕ) (i n : ℕ) where
 
     pub next-line : flagged (drop n flags) (behind (drop i s)) ≡ next ∷ rest
     next-line =
-        ap (flagged (drop n flags)) (behind-one s i (λ e. h (omega (arith, a, e))))
-        ∙ flag-first (drop n flags) lead (contentFrom s (lineFrom s i)) (behind (drop (lineTo s i) s))
+        next-lines s flags i n (λ e. h (omega (arith, a, e)))
         ∙ ap (λ t. line t lead (contentFrom s (lineFrom s i)) ∷ flagged (drop 1 (drop n flags)) (behind (drop (lineTo s i) s))) (sym g)
         ∙ ap (λ t. line f lead t ∷ flagged (drop 1 (drop n flags)) (behind (drop (lineTo s i) s))) (sym content-is)
         ∙ ap (λ t. next ∷ flagged (drop 1 (drop n flags)) (behind (drop t s))) (sym to-is)
@@ -160,13 +142,11 @@ module _ (ρ : Rules) (s flags : List ℕ) (i n : ℕ) (to f : ℕ) (content : L
   first-content = content-of s i to content b d
 
   pub all-lines : linesOf (drop n flags) (drop i s) ≡ firstLine ∷ others
-  unfolding linesOf
   all-lines =
-      ap (flagged (drop n flags)) (cut-first [] (drop i s))
-      ∙ flag-first (drop n flags) [] (contentFrom s i) (behind (drop (lineLength (drop i s)) (drop i s)))
-      ∙ ap (λ t. line t [] (contentFrom s i) ∷ flagged (drop 1 (drop n flags)) (behind (drop (lineLength (drop i s)) (drop i s)))) (sym g)
-      ∙ ap (λ t. line f [] t ∷ flagged (drop 1 (drop n flags)) (behind (drop (lineLength (drop i s)) (drop i s)))) (sym first-content)
-      ∙ ap (λ t. firstLine ∷ flagged (drop 1 (drop n flags)) (behind t)) (drop-drop (lineLength (drop i s)) i s ∙ ap (λ t. drop t s) (sym b))
+      first-line s flags i n
+      ∙ ap (λ t. line t [] (contentFrom s i) ∷ flagged (drop 1 (drop n flags)) (behind (drop (i + lineLength (drop i s)) s))) (sym g)
+      ∙ ap (λ t. line f [] t ∷ flagged (drop 1 (drop n flags)) (behind (drop (i + lineLength (drop i s)) s))) (sym first-content)
+      ∙ ap (λ t. firstLine ∷ flagged (drop 1 (drop n flags)) (behind (drop t s))) (sym b)
 
   pub stopped : i + length content ≡ to
   stopped = let m : length content ≡ length (contentFrom s i) = ap length first-content in omega (arith, m, b, content-length (drop i s))

@@ -1,7 +1,6 @@
-// The lower crate: byte classes, names, points, lines and copying.
+// The lower crate: byte classes, names, points and lines.
 pub mod byte;
 pub mod constant;
-pub mod copy;
 pub mod event;
 pub mod line;
 pub mod slice;

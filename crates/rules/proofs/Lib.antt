@@ -4,3 +4,4 @@ pub mod Comment
 pub mod Past
 pub mod Refusals
 pub mod Cut
+pub mod LineLaws

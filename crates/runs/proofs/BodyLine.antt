@@ -15,16 +15,8 @@ use Rattle.lexical.proofs.Cases.{clash, excluded, or-left, or-right, and-left, 
 use Rattle.rules.specs.Search.{choose}
 use Rattle.rules.specs.Lines.{Line, line, push, cutLines, flagged, linesOf}
 use Rattle.rules.specs.Private.{isPrivate, Form, around, closer, InlineSwap, comment as Comment, instruction as Instruction, declaration as Declaration, cdata as Cdata}
+use Rattle.rules.proofs.LineLaws.{sizes}
 use Rattle.runs.proofs.Body.{inside, around-inside, all-more}
-
--- how many bytes lines have, with the endings that lead to them
-abbrev pub sizes : List Line → ℕ
-sizes [] = 0
-sizes (l ∷ ls) = length (l .lead) + length (l .content) + sizes ls
-
-pub sizes-append : (a b : List Line) → sizes (a ++ b) ≡ sizes a + sizes b
-sizes-append [] b = omega arith
-sizes-append (l ∷ a) b = let e = sizes-append a b in omega arith
 
 -- no byte of a line ending
 abbrev isInner : ℕ → Bool

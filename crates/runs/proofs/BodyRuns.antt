@@ -19,7 +19,8 @@ use Rattle.runs.proofs.Alike.{Pair, ahead, blank-same}
 use Rattle.runs.proofs.Body.{inside, around-inside}
 use Rattle.runs.proofs.Steady.{kind-same, closes-same}
 use Rattle.runs.proofs.Paragraph.{pieces-prior, pieces-ahead}
-use Rattle.runs.proofs.BodyLine.{sizes, body-line, around-some}
+use Rattle.rules.proofs.LineLaws.{sizes}
+use Rattle.runs.proofs.BodyLine.{body-line, around-some}
 use Rattle.runs.proofs.Behind.{stop-from, lines-behind}
 
 inside-more : (f : Form) (b z r : List ℕ) → inside f b z ++ r ≡ inside f b (z ++ r)

@@ -14,7 +14,7 @@ use Rattle.rules.specs.Withhold.{Mark, blockMore, marks, linePieces}
 use Rattle.rules.specs.declared.Rules.{Rules}
 use Rattle.runs.proofs.Corresponding.{Corresponding}
 use Rattle.runs.proofs.Steady.{quiet}
-use Rattle.runs.proofs.BodyLine.{sizes}
+use Rattle.rules.proofs.LineLaws.{sizes}
 use Rattle.runs.proofs.Behind.{lines-behind}
 use Rattle.runs.proofs.PrivateLines.{Privates, no-more, one-more}
 

@@ -20,7 +20,7 @@ use Rattle.rules.specs.Private.{any, encloses}
 use Rattle.rules.specs.declared.Rules.{Rules}
 use Rattle.runs.proofs.Corresponding.{At, early, Corresponding, next, both, early-at, late-at}
 use Rattle.runs.proofs.Paragraph.{pieces-prior}
-use Rattle.runs.proofs.BodyLine.{sizes, sizes-append}
+use Rattle.rules.proofs.LineLaws.{sizes, sizes-append}
 use Rattle.runs.proofs.Behind.{stop-from}
 use Rattle.runs.proofs.PrivateLines.{Privates, firstLead}
 use Rattle.runs.proofs.Covered.{same-number, extent-some, extent-over, extent-within, empty, stop-through, stop-bound, stop-within, covered-marks, covered-pieces}

@@ -23,8 +23,7 @@ use Rattle.rules.specs.Block.{kindAt, kindOf, startsRaw, startsBasic, startsCom
 use Rattle.rules.specs.Withhold.{Mark, blockFirst, marks, goesOn, Piece, piece, inline, byRead, inlinePieces, linePieces, pieces, isWithheld, outside}
 use Rattle.rules.specs.declared.Rules.{Rules}
 use Rattle.runs.proofs.Less.{ReadMost, read-most}
-use Rattle.runs.proofs.BodyLine.{sizes}
-use Rattle.runs.proofs.PrivateLines.{flagged-size}
+use Rattle.rules.proofs.LineLaws.{sizes, lines-size, stopFrom, stop-from, stop-is}
 use Rattle.runs.proofs.Covered.{extent-some}
 
 -- pieces that stand in order between two indices, each with a byte, none over another
@@ -76,23 +75,6 @@ inline-ordered ρ (suc n) i (x ∷ s) = by-read (λ k t. inline-ordered ρ n k t
     by-read ih (lacks k) h = widen (omega arith) (omega arith) (ih (suc i) s)
 
 -- ---- blocks
--- where the content of the last of n lines ends, the first of which stands behind the index i
-abbrev reach : ℕ → ℕ → List Line → ℕ
-reach i zero ls = i
-reach i (suc n) [] = i
-reach i (suc n) (l ∷ ls) = reach (i + length (l .lead) + length (l .content)) n ls
-
-reach-from : (i n : ℕ) (ls : List Line) → i ≤ reach i n ls
-reach-from i zero ls = omega arith
-reach-from i (suc n) [] = omega arith
-reach-from i (suc n) (l ∷ ls) = let h = reach-from (i + length (l .lead) + length (l .content)) n ls in omega arith
-
-stop-is : (n i : ℕ) (l : Line) (ls : List Line) → stopAfter i (suc n) (l ∷ ls) ≡ reach (i + length (l .content)) n ls
-unfolding stopAfter
-stop-is zero i l ls = refl
-stop-is (suc n) i l [] = refl
-stop-is (suc n) i l (m ∷ ls) = stop-is n (i + length (l .content) + length (m .lead)) m ls
-
 -- a line that opens a block has a byte
 opens-some : (ρ : Rules) (f : ℕ) (e c : List ℕ) → eqb (kindOf ρ (line f e c)) 0 ≡ false → 0 < length c
 unfolding kindOf kindAt startsRaw startsBasic startsComplete run openTag closingTag
@@ -111,7 +93,7 @@ module _ (ρ : Rules) where
 
   -- a block stops where its lines end, and has the bytes of the first
   block-first : (l : Line) (ls : List Line) (i k : ℕ) → 0 < length (l .content)
-      → Claim (reach (i + length (l .lead) + length (l .content)) (extentOf ρ k l ls .lines - 1) ls) (i + length (l .lead) + length (l .content)) (marks ρ (extentOf ρ k l ls .lines - 1) false ls) ls
+      → Claim (stopFrom (i + length (l .lead) + length (l .content)) (extentOf ρ k l ls .lines - 1) ls) (i + length (l .lead) + length (l .content)) (marks ρ (extentOf ρ k l ls .lines - 1) false ls) ls
       → Claim i i (blockFirst k (extentOf ρ k l ls) ∷ marks ρ (extentOf ρ k l ls .lines - 1) false ls) (l ∷ ls)
   unfolding linePieces goesOn
   block-first l ls i k h o =
@@ -119,16 +101,16 @@ module _ (ρ : Rules) where
       let end = begin + length (l .content) in
       let n = extentOf ρ k l ls .lines - 1 in
       let stop = stopAfter begin (extentOf ρ k l ls .lines) (l ∷ ls) in
-      let is : stop ≡ reach end n ls = ap (λ (m : ℕ). stopAfter begin m (l ∷ ls)) (extent-some ρ k l ls) ∙ stop-is n begin l ls in
-      let far = reach-from end n ls in
+      let is : stop ≡ stopFrom end n ls = ap (λ (m : ℕ). stopAfter begin m (l ∷ ls)) (extent-some ρ k l ls) ∙ stop-is n begin l ls in
+      let far = stop-from end n ls in
       let a : i + 0 ≤ begin = omega arith in
       let b : begin < stop = omega arith in
       let rest : Ordered stop (i + sizes (l ∷ ls)) (linePieces ρ end (marks ρ n false ls) ls) = widen (omega arith) (omega arith) o in
       one-more a b rest
 
   -- n further lines belong to a block, and all pieces stand behind them
-  lines-ordered : (ls : List Line) (n : ℕ) (paragraph : Bool) (i : ℕ) → Claim (reach i n ls) i (marks ρ n paragraph ls) ls
-  unfolding marks linePieces goesOn
+  lines-ordered : (ls : List Line) (n : ℕ) (paragraph : Bool) (i : ℕ) → Claim (stopFrom i n ls) i (marks ρ n paragraph ls) ls
+  unfolding marks linePieces goesOn stopFrom
   lines-ordered [] zero paragraph i = let h : i + 0 ≤ i + 0 = omega arith in none h
   lines-ordered [] (suc n) paragraph i = let h : i + 0 ≤ i + 0 = omega arith in none h
   lines-ordered (l ∷ ls) (suc n) paragraph i = widen (omega arith) (omega arith) (lines-ordered ls n false (i + length (l .lead) + length (l .content)))
@@ -146,44 +128,7 @@ module _ (ρ : Rules) where
       (λ _. appended {mid = end + length text} (widen (omega arith) (omega arith) (inline-ordered ρ (length (l .content ++ text)) begin (l .content ++ text))) (widen (omega arith) (omega arith) (lines-ordered ls zero true end)))))
       (λ h. block-first l ls i (kindOf ρ l) (opens-some ρ (l .flag) (l .lead) (l .content) h) (lines-ordered ls (extentOf ρ (kindOf ρ l) l ls .lines - 1) false end))
 
--- ---- the bytes of all lines
--- some lines, with n bytes
-data Total : ℕ → List Line → Type 0 where
-  total : {n : ℕ} {l : Line} {ls : List Line} → sizes (l ∷ ls) ≡ n → Total n (l ∷ ls)
-
-total-sizes : {n : ℕ} {ls : List Line} → Total n ls → sizes ls ≡ n
-total-sizes (total e) = e
-
-total-choose : {n : ℕ} {x y : List Line} (b : Bool) → (b ≡ true → Total n x) → (b ≡ false → Total n y) → Total n (choose b (λ _. x) (λ _. y))
-total-choose true f g = f refl
-total-choose false f g = g refl
-
-total-first : {m n : ℕ} {ls : List Line} (ending : List ℕ) → Total m ls → length ending + m ≡ n → Total n (line 0 ending [] ∷ ls)
-total-first {n = n} {ls} ending t e = let h : sizes (line 0 ending [] ∷ ls) ≡ n = omega (arith, total-sizes t) in total h
-
-total-push : {m n : ℕ} {ls : List Line} (x : ℕ) → Total m ls → suc m ≡ n → Total n (push x ls)
-total-push {n = n} x (total {l = l} {ls} h) e = let k : sizes (push x (l ∷ ls)) ≡ n = omega arith in total k
-
--- no CR stands before
-no-return : {n : ℕ} → false ≡ true → n ≡ 1
-no-return z = clash true refl (sym z)
-
--- cr: the ending is a CR, which with an LF in front of s is one ending
-cut-total : (s : List ℕ) (cr : Bool) (ending : List ℕ) → (cr ≡ true → length ending ≡ 1) → Total (length ending + length s) (cutLines cr ending s)
-unfolding cutLines
-cut-total [] cr ending one = let h : length ending + 0 + 0 ≡ length ending + 0 = omega arith in total h
-cut-total (x ∷ xs) cr ending one =
-    total-choose (eqb x (byte "\n"))
-    (λ _. total-choose cr
-    (λ t. let e : 2 + length xs ≡ length ending + suc (length xs) = omega (arith, one t) in rw (sym e) (cut-total xs false (bytes "\r\n") no-return))
-    (λ _. total-first ending (cut-total xs false (bytes "\n") no-return) (omega arith)))
-    (λ _. total-choose (eqb x (byte "\r")) (λ _. total-first ending (cut-total xs true (bytes "\r") (λ _. refl)) (omega arith))
-    (λ _. total-push x (cut-total xs false ending no-return) (omega arith)))
-
-pub lines-size : (flags text : List ℕ) → sizes (linesOf flags text) ≡ length text
-unfolding linesOf
-lines-size flags text = flagged-size flags (cutLines false [] text) ∙ total-sizes (cut-total text false [] no-return) ∙ omega arith
-
+-- ---- the whole bulletin
 pub pieces-ordered : (ρ : Rules) (text flags : List ℕ) → Ordered 0 (length text) (pieces ρ text flags)
 unfolding pieces
 pieces-ordered ρ text flags = widen (omega arith) (omega (arith, lines-size flags text)) (lines-ordered ρ (linesOf flags text) 0 false 0)

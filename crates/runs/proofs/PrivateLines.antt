@@ -13,7 +13,7 @@ use Rattle.lexical.proofs.Cases.{excluded, and-left, and-right}
 use Rattle.rules.specs.Search.{choose}
 use Rattle.rules.specs.Lines.{Line, line, push, cutLines, flagged, linesOf}
 use Rattle.rules.specs.Private.{isPrivate, linesText, LinesSwap}
-use Rattle.runs.proofs.BodyLine.{sizes}
+use Rattle.rules.proofs.LineLaws.{no-flags, sizes, flagged-size}
 
 -- ---- behind an LF the lines begin anew
 -- the lines g s, where s stands behind n bytes
@@ -127,22 +127,11 @@ flagsLeft fs [] = fs
 flagsLeft [] (l ∷ ls) = []
 flagsLeft (f ∷ fs) (l ∷ ls) = flagsLeft fs ls
 
-no-flags : (b : List Line) → flagged [] b ≡ b
-unfolding flagged
-no-flags [] = refl
-no-flags (l ∷ ls) = refl
-
 flagged-append : (fs : List ℕ) (a b : List Line) → flagged fs (a ++ b) ≡ flagged fs a ++ flagged (flagsLeft fs a) b
 unfolding flagged
 flagged-append fs [] b = refl
 flagged-append [] (l ∷ ls) b = rw (no-flags b)
 flagged-append (f ∷ fs) (l ∷ ls) b = rw (flagged-append fs ls b)
-
-pub flagged-size : (fs : List ℕ) (a : List Line) → sizes (flagged fs a) ≡ sizes a
-unfolding flagged
-flagged-size fs [] = refl
-flagged-size [] (l ∷ ls) = refl
-flagged-size (f ∷ fs) (l ∷ ls) = ap (λ (n : ℕ). length (l .lead) + length (l .content) + n) (flagged-size fs ls)
 
 left-same : (fs lead : List ℕ) (cs ds : List (List ℕ)) → length cs ≡ length ds → flagsLeft fs (privates lead cs) ≡ flagsLeft fs (privates lead ds)
 left-same fs lead [] [] e = refl

@@ -16,7 +16,7 @@ use Rattle.rules.specs.Private.{any, spans, linesText, LinesSwap, isClosed, enc
 use Rattle.rules.specs.declared.Rules.{Rules}
 use Rattle.runs.proofs.Corresponding.{or-true, At, early, Corresponding, done, next, late-at, same-count, same-outside}
 use Rattle.runs.proofs.BodyRuns.{body-runs}
-use Rattle.runs.proofs.BodyLine.{sizes}
+use Rattle.rules.proofs.LineLaws.{sizes}
 use Rattle.runs.proofs.PrivateLines.{ledText, led-is, LineStretch, line-stretch}
 use Rattle.runs.proofs.LineRuns.{found}
 

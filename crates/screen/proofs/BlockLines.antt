@@ -19,17 +19,10 @@ use Rattle.rules.specs.Scan.{BlockAnswer, foundBlock, noBlock, refusedBlock, bl
 use Rattle.rules.specs.Withhold.{Piece, piece, inline, block, marks, linePieces}
 use Rattle.rules.specs.declared.Rules.{Rules}
 use Rattle.rules.proofs.Cut.{content-length, lineFrom, lineTo, to-within}
-use Rattle.flow.specs.BlockMachine.{stopFrom, contentFrom}
-use Rattle.flow.proofs.BlockSteps.{stop-is}
+use Rattle.rules.proofs.LineLaws.{contentFrom, stopFrom, stop-from, stop-is}
 use Rattle.runs.proofs.Covered.{extent-some}
 use Rattle.screen.specs.Remaining.{lineAt, fromLine, BlockEnd}
-use Rattle.screen.proofs.FromLine.{ending-there, line-ended, line-within, linesBehind, leadAt, ledLine, first-line, led-to, next-lines, no-lines, piecesBehind, no-more, behind-line}
-
-stop-from : (stop n : ℕ) (ls : List Line) → stop ≤ stopFrom stop n ls
-unfolding stopFrom
-stop-from stop zero ls = omega arith
-stop-from stop (suc n) [] = omega arith
-stop-from stop (suc n) (l ∷ ls) = let h = stop-from (stop + length (l .lead) + length (l .content)) n ls in omega arith
+use Rattle.screen.proofs.FromLine.{ending-there, read-to, line-ended, line-within, linesBehind, ledLine, first-numbered, led-to, next-numbered, no-lines, piecesBehind, no-more, behind-line}
 
 -- ---- what an answer says
 abbrev pieceOf : ℕ → BlockAnswer → Piece
@@ -75,7 +68,7 @@ module _ (ρ : Rules) (text flags : List ℕ) where
   unfolding behindBlock
   pass stop e n m r h a b =
       let some = ending-there text e h b in
-      rw (next-lines text flags e n m r some, lt-ltb e stop a) (ap (λ t. behindBlock ρ stop t (L (lineTo text e) m)) (led-to text flags e n))
+      rw (next-numbered text flags e n m r some, lt-ltb e stop a) (ap (λ t. behindBlock ρ stop t (L (lineTo text e) m)) (led-to text flags e n))
 
   -- m further lines
   more-lines : (m e n : ℕ) → lineLength (drop e text) ≡ 0 → linePieces ρ e (marks ρ m false (L e n)) (L e n) ≡ behindBlock ρ (stopFrom e m (L e n)) e (L e n)
@@ -88,7 +81,7 @@ module _ (ρ : Rules) (text flags : List ℕ) where
       let to = lineTo text e in
       let rest = L (lineTo text e) (n + 1) in
       let r = sym (suffix-next flags n) in
-      let k = next-lines text flags e n (n + 1) r (ending-there text e h b) in
+      let k = next-numbered text flags e n (n + 1) r (ending-there text e h b) in
       let stop : stopFrom e (suc m) (L e n) ≡ stopFrom (lineTo text e) m (L (lineTo text e) (n + 1)) = ap (stopFrom e (suc m)) k ∙ ap (λ t. stopFrom t m (L (lineTo text e) (n + 1))) (led-to text flags e n) in
       let far : e < stopFrom e (suc m) (L e n) = omega (arith, stop, stop-from (lineTo text e) m (L (lineTo text e) (n + 1)), ending-there text e h b) in
       ap (λ ls. linePieces ρ e (marks ρ (suc m) false ls) ls) k
@@ -147,7 +140,7 @@ module _ (ρ : Rules) (text flags : List ℕ) where
         → fromLine ρ text flags i n ≡ piece i stop (block q c) ∷ behindBlock ρ stop E (L E m)
     unfolding fromLine
     block-lines q stop c o =
-        let f = first-line text flags i n m r in
+        let f = first-numbered text flags i n m r in
         ap (piecesBehind ρ i) f ∙ found q stop c (ap (blockOf ρ i) (sym f) ∙ o)
 
     -- what was found says whether the line opens one; no answer is a refusal
@@ -164,7 +157,7 @@ module _ (ρ : Rules) (text flags : List ℕ) where
     by-number = sym (suffix-next flags n)
 
     answer-is : blockOf ρ i (lineAt text flags i n ∷ L (i + lineLength (drop i text)) (n + 1)) ≡ a
-    answer-is = ap (blockOf ρ i) (sym (first-line text flags i n (n + 1) by-number)) ∙ o
+    answer-is = ap (blockOf ρ i) (sym (first-numbered text flags i n (n + 1) by-number)) ∙ o
 
     pub opens : not (eqb (kindOf ρ (lineAt text flags i n)) 0) ≡ isFound a
     opens = sym (kind-found i n (n + 1) by-number) ∙ ap isFound answer-is
@@ -185,21 +178,15 @@ module _ (text flags : List ℕ) (stop : ℕ) where
 
   module _ (E n e m : ℕ) (passing : Passing E n e m) where
     -- the next line as the code reads it
-    module _ (from to : ℕ) (a : from ≡ lineFrom text e) (b : to ≡ from + lineLength (drop from text)) (l : e < length text) where
-      to-is : to ≡ lineTo text e
-      to-is = b ∙ ap (λ t. t + lineLength (drop t text)) a
-
-      pub farther : e < to
-      farther = omega (arith, to-is, ending-there text e (passing .ended) l)
-
-      pub passing-next : (q : ℕ) → drop q flags ≡ drop 1 (drop m flags) → e < stop → Passing E n to q
-      passing-next q r h =
-          subst (λ t. Passing E n t q) (sym to-is)
-          (record {
-            to = to-within text e (passing .to);
-            ended = line-ended text (lineFrom text e);
-            same = λ ρ. passing .same ρ ∙ pass ρ text flags stop e m q r (passing .ended) h l;
-          })
+    pub passing-next : (from to : ℕ) → from ≡ lineFrom text e → to ≡ from + lineLength (drop from text) → e < length text → (q : ℕ) → drop q flags ≡ drop 1 (drop m flags) → e < stop
+        → Passing E n to q
+    passing-next from to a b l q r h =
+        subst (λ t. Passing E n t q) (sym (read-to text e from to a b))
+        (record {
+          to = to-within text e (passing .to);
+          ended = line-ended text (lineFrom text e);
+          same = λ ρ. passing .same ρ ∙ pass ρ text flags stop e m q r (passing .ended) h l;
+        })
 
     rest : (ρ : Rules) → (ltb e stop && ltb e (length text)) ≡ false → behindBlock ρ stop e (linesBehind text flags e m) ≡ fromLine ρ text flags (lineFrom text e) m
     unfolding behindBlock

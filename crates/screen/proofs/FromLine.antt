@@ -21,9 +21,8 @@ use Rattle.rules.specs.Lines.{Line, line, cutLines, flagged, linesOf}
 use Rattle.rules.specs.Block.{kindOf, extentOf, stopAfter}
 use Rattle.rules.specs.Withhold.{Mark, blockFirst, blockMore, blank, paragraphFirst, paragraphMore, Piece, piece, block, marks, goesOn, inlinePieces, linePieces}
 use Rattle.rules.specs.declared.Rules.{Rules}
-use Rattle.rules.proofs.Cut.{behind, behind-none, behind-one, cut-first, content-length, lead-length, lineFrom, lineTo}
-use Rattle.flow.specs.BlockMachine.{contentFrom}
-use Rattle.flow.proofs.BlockSteps.{flag-first}
+use Rattle.rules.proofs.Cut.{behind, behind-none, content-length, lead-length, lineFrom, lineTo}
+use Rattle.rules.proofs.LineLaws.{contentFrom, flag-first, first-line, leadAt, next-lines}
 use Rattle.flow.proofs.OpenMeans.{nothing-opened}
 use Rattle.screen.specs.Remaining.{lineAt, fromLine}
 
@@ -58,35 +57,32 @@ module _ (text flags : List ℕ) where
   linesBehind e n = flagged (drop n flags) (behind (drop e text))
 
   -- a line and the lines behind it, m being the next line's number
-  pub first-line : (i n m : ℕ) → drop m flags ≡ drop 1 (drop n flags)
+  pub first-numbered : (i n m : ℕ) → drop m flags ≡ drop 1 (drop n flags)
       → linesOf (drop n flags) (drop i text) ≡ lineAt text flags i n ∷ linesBehind (i + lineLength (drop i text)) m
-  unfolding linesOf
-  first-line i n m r =
-      ap (flagged (drop n flags)) (cut-first [] (drop i text))
-      ∙ flag-first (drop n flags) [] (contentFrom text i) (behind (drop (lineLength (drop i text)) (drop i text)))
-      ∙ ap (λ t. lineAt text flags i n ∷ flagged (drop 1 (drop n flags)) (behind t)) (drop-drop (lineLength (drop i text)) i text)
-      ∙ ap (λ t. lineAt text flags i n ∷ flagged t (behind (drop (i + lineLength (drop i text)) text))) (sym r)
+  first-numbered i n m r = first-line text flags i n ∙ ap (λ t. lineAt text flags i n ∷ flagged t (behind (drop (i + lineLength (drop i text)) text))) (sym r)
 
   -- the next line, with the ending that leads to it
-  abbrev pub leadAt : ℕ → List ℕ
-  leadAt e = take (lineEnding (drop e text)) (drop e text)
-
   abbrev pub ledLine : ℕ → ℕ → Line
-  ledLine e n = line (getD (drop n flags) 0 0) (leadAt e) (contentFrom text (lineFrom text e))
+  ledLine e n = line (getD (drop n flags) 0 0) (leadAt text flags e) (contentFrom text (lineFrom text e))
 
   pub led-to : (e n : ℕ) → e + length (ledLine e n .lead) + length (ledLine e n .content) ≡ lineTo text e
   led-to e n = omega (arith, lead-length text e, content-length (drop (lineFrom text e) text))
 
-  pub next-lines : (e n m : ℕ) → drop m flags ≡ drop 1 (drop n flags) → 0 < lineEnding (drop e text)
+  pub next-numbered : (e n m : ℕ) → drop m flags ≡ drop 1 (drop n flags) → 0 < lineEnding (drop e text)
       → linesBehind e n ≡ ledLine e n ∷ linesBehind (lineTo text e) m
-  next-lines e n m r h =
-      ap (flagged (drop n flags)) (behind-one text e (λ z. absurd (omega (arith, z))))
-      ∙ flag-first (drop n flags) (leadAt e) (contentFrom text (lineFrom text e)) (behind (drop (lineTo text e) text))
-      ∙ ap (λ t. ledLine e n ∷ flagged t (behind (drop (lineTo text e) text))) (sym r)
+  next-numbered e n m r h = next-lines text flags e n (λ z. absurd (omega (arith, z))) ∙ ap (λ t. ledLine e n ∷ flagged t (behind (drop (lineTo text e) text))) (sym r)
 
   pub no-lines : (e n : ℕ) → lineEnding (drop e text) ≡ 0 → linesBehind e n ≡ []
   unfolding flagged
   no-lines e n z = rw (behind-none text e z)
+
+-- the next line as the code reads it: where it begins, and where its content ends
+module _ (text : List ℕ) (e from to : ℕ) (a : from ≡ lineFrom text e) (b : to ≡ from + lineLength (drop from text)) where
+  pub read-to : to ≡ lineTo text e
+  read-to = b ∙ ap (λ t. t + lineLength (drop t text)) a
+
+  pub farther : lineLength (drop e text) ≡ 0 → e < length text → e < to
+  farther h l = omega (arith, read-to, ending-there text e h l)
 
 -- ---- the ending that leads to a line counts only in a paragraph
 stop-led : (i n f : ℕ) (e c : List ℕ) (ls : List Line) → stopAfter i n (line f e c ∷ ls) ≡ stopAfter i n (line f [] c ∷ ls)
@@ -142,9 +138,9 @@ module _ (ρ : Rules) where
         split (ltb e (length text))
         (λ l.
         let some = ending-there text e h (ltb-true e (length text) l) in
-        ap (piecesBehind e) (next-lines text flags e n (n + 1) (sym (suffix-next flags n)) some)
+        ap (piecesBehind e) (next-numbered text flags e n (n + 1) (sym (suffix-next flags n)) some)
         ∙ led e (lineFrom text e) (getD (drop n flags) 0 0) (leadAt text flags e) (contentFrom text (lineFrom text e)) (linesBehind text flags (lineTo text e) (n + 1)) (omega (arith, lead-length text e))
-        ∙ ap (piecesBehind (lineFrom text e)) (sym (first-line text flags (lineFrom text e) n (n + 1) (sym (suffix-next flags n)))))
+        ∙ ap (piecesBehind (lineFrom text e)) (sym (first-numbered text flags (lineFrom text e) n (n + 1) (sym (suffix-next flags n)))))
         (λ l.
         let o = ltb-false e (length text) l in
         ap (piecesBehind e) (no-lines text flags e n (ending-out text e o)) ∙ sym (no-more (lineFrom text e) n (omega arith)))

@@ -8,7 +8,7 @@ use native.Mathlib.Omega.{arith}
 use lib.Dec.{eqb, ltb}
 use lib.ListN.{length, getD, take, drop, length-append, length-drop}
 use lib.Seq.{drop-drop, take-add, take-nil}
-use borrow.Author.Tests.{eqb-true, ltb-true, ltb-false}
+use borrow.Author.Tests.{eqb-true, ltb-true, ltb-false, not-true, not-false}
 use Rattle.lexical.specs.Text.{byte, first, run}
 use Rattle.lexical.specs.Byte.{isLineEndingByte, isSpaceOrTab}
 use Rattle.lexical.specs.Name.{all}
@@ -23,14 +23,10 @@ use Rattle.rules.specs.Block.{kindOf, extentOf, stopAfter}
 use Rattle.rules.specs.Withhold.{Mark, blockFirst, blockMore, blank, paragraphFirst, paragraphMore, Piece, piece, inline, block, byRead, marks, goesOn, inlinePieces, linePieces}
 use Rattle.rules.specs.declared.Rules.{Rules}
 use Rattle.rules.proofs.Cut.{content-length, lead-length, lineFrom, lineTo, to-within, blank-apart}
-use Rattle.flow.specs.BlockMachine.{contentFrom}
+use Rattle.rules.proofs.LineLaws.{contentFrom, leadAt}
 use Rattle.screen.specs.Remaining.{isPlain, lineAt, endsParagraph, fromLine, fromIndex, ParagraphEnd}
 use Rattle.screen.proofs.Ahead.{not-open}
-use Rattle.screen.proofs.FromLine.{ending-there, line-ended, line-within, linesBehind, leadAt, ledLine, led-to, first-line, next-lines, no-lines, piecesBehind, same-kind, no-more, behind-line}
-
-pub was-true : (b : Bool) → not b ≡ false → b ≡ true
-was-true true h = refl
-was-true false h = sym h
+use Rattle.screen.proofs.FromLine.{ending-there, line-ended, line-within, linesBehind, ledLine, led-to, first-numbered, next-numbered, no-lines, read-to, piecesBehind, same-kind, no-more, behind-line}
 
 -- ---- bytes without `<`
 abbrev pub noOpen : ℕ → Bool
@@ -67,13 +63,9 @@ module _ (ρ : Rules) where
   unfolding inlinePieces all
   skip i [] t h = let z : i + 0 ≡ i = omega arith in rw z refl
   skip i (x ∷ u) t h =
-      let e : eqb x (byte "<") ≡ false = closed (eqb x (byte "<")) (and-left (noOpen x) (all noOpen u) h) in
+      let e : eqb x (byte "<") ≡ false = not-true (eqb x (byte "<")) (and-left (noOpen x) (all noOpen u) h) in
       let z : suc i + length u ≡ i + suc (length u) = omega arith in
       rw (not-open ρ x (u ++ t) e) (skip (suc i) u t (and-right (noOpen x) (all noOpen u) h) ∙ ap (λ n. inlinePieces ρ (length t) n t) z)
-    where
-      closed : (b : Bool) → not b ≡ true → b ≡ false
-      closed true h = sym h
-      closed false h = refl
 
   -- ---- a line and the lines behind it
   module _ (e : ℕ) (l : Line) (ls : List Line) where
@@ -171,7 +163,7 @@ module _ (ρ : Rules) (text flags : List ℕ) where
   over e n l = no-lines text flags e n (ending-out text e l)
 
   next : (e n m : ℕ) → drop m flags ≡ drop 1 (drop n flags) → lineLength (drop e text) ≡ 0 → e < length text → L e n ≡ ledLine text flags e n ∷ L (lineTo text e) m
-  next e n m r h l = next-lines text flags e n m r (ending-there text e h l)
+  next e n m r h l = next-numbered text flags e n m r (ending-there text e h l)
 
   restart : (e n : ℕ) → lineLength (drop e text) ≡ 0 → both e (L e n) ≡ fromLine ρ text flags (lineFrom text e) n
   unfolding marks goesOn linePieces inlinePieces
@@ -198,7 +190,7 @@ module _ (ρ : Rules) (text flags : List ℕ) where
     blank-first : isBlank c ≡ true → fromLine ρ text flags i n ≡ fromLine ρ text flags (lineFrom text E) m
     unfolding fromLine
     blank-first b =
-        ap (piecesBehind ρ i) (first-line text flags i n m r)
+        ap (piecesBehind ρ i) (first-numbered text flags i n m r)
         ∙ blank-line ρ i (lineAt text flags i n) (L E m) none b
         ∙ ap (λ t. piecesBehind ρ t (L E m)) content-end
         ∙ behind-line ρ text flags E m (line-ended text i)
@@ -208,7 +200,7 @@ module _ (ρ : Rules) (text flags : List ℕ) where
     text-first b =
         let z : i + 0 ≡ i = omega arith in
         let P = c ++ onward E m in
-        ap (piecesBehind ρ i) (first-line text flags i n m r)
+        ap (piecesBehind ρ i) (first-numbered text flags i n m r)
         ∙ text-line ρ i (lineAt text flags i n) (L E m) none b
         ∙ ap (λ t. inlinePieces ρ (length P) t P ++ linePieces ρ (i + 0 + length c) (marks ρ 0 true (L E m)) (L E m)) z
         ∙ ap (λ t. inlinePieces ρ (length P) i P ++ linePieces ρ t (marks ρ 0 true (L E m)) (L E m)) content-end
@@ -278,7 +270,7 @@ module _ (ρ : Rules) (text flags : List ℕ) where
       along-on h =
           let g = same ∙ h in
           let b = or-left (isBlank (contentFrom text from)) (not (eqb (kindOf ρ following) 0)) g in
-          let z : kindOf ρ following ≡ 0 = eqb-true (kindOf ρ following) 0 (was-true (eqb (kindOf ρ following) 0) (or-right (isBlank (contentFrom text from)) (not (eqb (kindOf ρ following) 0)) g)) in
+          let z : kindOf ρ following ≡ 0 = eqb-true (kindOf ρ following) 0 (not-false (eqb (kindOf ρ following) 0) (or-right (isBlank (contentFrom text from)) (not (eqb (kindOf ρ following) 0)) g)) in
           record {
             from = omega (arith, along .from);
             to = to-within text stop (along .to);
@@ -297,16 +289,11 @@ module _ (ρ : Rules) (text flags : List ℕ) where
           ∙ ap (piecesBehind ρ stop) (sym follows)
           ∙ behind-line ρ text flags stop m (along .ended)
 
-    -- the next line as the code reads it: where it begins, and where its content ends
-    module _ (next-from next-to : ℕ) (a : next-from ≡ lineFrom text stop) (b : next-to ≡ next-from + lineLength (drop next-from text)) (l : stop < length text) where
-      to-is : next-to ≡ lineTo text stop
-      to-is = b ∙ ap (λ t. t + lineLength (drop t text)) a
-
-      pub along-next : (q : ℕ) → drop q flags ≡ drop 1 (drop m flags) → endsParagraph ρ (lineAt text flags next-from m) ≡ false → Along E n next-to q
-      along-next q r h = subst (λ t. Along E n t q) (sym to-is) (along-on q r l (ap (λ t. endsParagraph ρ (lineAt text flags t m)) (sym a) ∙ h))
-
-      pub farther : stop < next-to
-      farther = omega (arith, to-is, ending-there text stop (along .ended) l)
+    -- the next line as the code reads it
+    pub along-next : (from to : ℕ) → from ≡ lineFrom text stop → to ≡ from + lineLength (drop from text) → stop < length text → (q : ℕ) → drop q flags ≡ drop 1 (drop m flags)
+        → endsParagraph ρ (lineAt text flags from m) ≡ false → Along E n to q
+    along-next from to a b l q r h =
+        subst (λ t. Along E n t q) (sym (read-to text stop from to a b)) (along-on q r l (ap (λ t. endsParagraph ρ (lineAt text flags t m)) (sym a) ∙ h))
 
   -- ---- the whole paragraph, whose first line stands at i
   module _ (i k n stop m : ℕ) (r : drop n flags ≡ drop 1 (drop k flags)) (along : Along (i + lineLength (drop i text)) n stop m) where

@@ -19,7 +19,7 @@ use Rattle.rules.specs.Withhold.{Piece, Which, piece, inline, block, inlinePiec
 use Rattle.rules.specs.declared.Rules.{Rules}
 use Rattle.lexical.proofs.Ending.{ending-within}
 use Rattle.rules.proofs.Cut.{lineFrom}
-use Rattle.flow.specs.BlockMachine.{contentFrom}
+use Rattle.rules.proofs.LineLaws.{contentFrom}
 use Rattle.screen.specs.Closer.{Known, allAhead}
 use Rattle.screen.specs.Remaining.{isPlain, lineAt, fromLine, BlockEnd, fromIndex, ParagraphEnd, Onward, atLine, remaining, Valid, Leads, Same, Opens}
 use Rattle.screen.specs.declared.closers.Closers.{Closers}

@@ -16,7 +16,7 @@ use Rattle.rules.specs.Scan.{foundBlock, blockOf}
 use Rattle.rules.specs.Withhold.{Piece, Which, piece, inline, block, marks, inlinePieces, linePieces, shows, written}
 use Rattle.rules.specs.declared.Rules.{Rules}
 use Rattle.rules.proofs.Cut.{lineFrom}
-use Rattle.flow.specs.BlockMachine.{contentFrom}
+use Rattle.rules.proofs.LineLaws.{contentFrom}
 use Rattle.screen.specs.Answer.{shownOf}
 use Rattle.screen.specs.Closer.{Known, allAhead}
 use Rattle.screen.specs.declared.closers.Closers.{Closers}

@@ -7,11 +7,11 @@ ghost use Rattle.rules.specs.Reading.{crate as ofCrate};
 ghost use Rattle.rules.specs.Withhold.{shown, count, withhold as withholdOf, withholdRefusal, written};
 ghost use Rattle.screen.specs.Answer.{shownOf};
 ghost use Rattle.screen.specs.Remaining.{Shows};
+use crate::copy::copy_part;
 use crate::pieces::Next;
 use crate::pieces::at_line;
 use crate::pieces::next_piece;
 use flow::scan::bulletin_refusal;
-use lexical::copy::copy_part;
 use rules::Rules;
 
 // 01, Where each refusal is met.

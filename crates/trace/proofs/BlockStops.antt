@@ -18,44 +18,12 @@ use Rattle.rules.specs.Lines.{Line, push, cutLines, flagged, linesOf}
 use Rattle.rules.specs.Block.{kindOf, extentOf, stopAfter}
 use Rattle.rules.specs.Scan.{foundBlock, noBlock, refusedBlock, blockOf, linesAt, blockAt, blockScan}
 use Rattle.trace.proofs.Stops.{Between, first-check, next-check}
-use Rattle.trace.proofs.Empty.{some-lines}
+use Rattle.rules.proofs.LineLaws.{sizes, lines-size}
 
--- ---- the bytes of lines
-abbrev size : List Line → ℕ
-size [] = 0
-size (l ∷ ls) = length (l .lead) + length (l .content) + size ls
-
-push-size : (x : ℕ) (ls : List Line) → 0 < length ls → size (push x ls) ≡ suc (size ls)
-push-size x [] h = absurd (omega arith)
-push-size x (l ∷ ls) h = omega arith
-
-both-sizes : (s : List ℕ) → ((e : List ℕ) → size (cutLines false e s) ≡ length e + length s) × (size (cutLines true (byte "\r" ∷ []) s) ≡ 1 + length s)
-unfolding cutLines
-both-sizes [] = (λ e. omega arith, refl)
-both-sizes (x ∷ xs) = (
-  λ e. split (eqb x (byte "\n"))
-      (λ h. simp h (let l = both-sizes xs .0 (byte "\n" ∷ []) in omega arith))
-      (λ h. split (eqb x (byte "\r"))
-      (λ r. simp (h, r) (let l = both-sizes xs .1 in omega arith))
-      (λ r. simp (h, r) (let l = both-sizes xs .0 e in omega (arith, push-size x (cutLines false e xs) (some-lines false e xs))))),
-  split (eqb x (byte "\n"))
-      (λ h. simp h (let l = both-sizes xs .0 (byte "\r" ∷ byte "\n" ∷ []) in omega arith))
-      (λ h. split (eqb x (byte "\r"))
-      (λ r. simp (h, r) (let l = both-sizes xs .1 in omega arith))
-      (λ r. simp (h, r) (let l = both-sizes xs .0 (byte "\r" ∷ []) in omega (arith, push-size x (cutLines false (byte "\r" ∷ []) xs) (some-lines false (byte "\r" ∷ []) xs))))),
-)
-
-flagged-size : (flags : List ℕ) (ls : List Line) → size (flagged flags ls) ≡ size ls
-unfolding flagged
-flagged-size [] [] = refl
-flagged-size [] (l ∷ ls) = refl
-flagged-size (f ∷ fs) [] = refl
-flagged-size (f ∷ fs) (l ∷ ls) = let e = flagged-size fs ls in omega arith
-
-lines-size : (text flags : List ℕ) (i : ℕ) → size (linesAt text flags i) ≡ length text - i
-unfolding linesAt linesOf
-lines-size text flags i =
-    flagged-size (drop (lineEndings (take i text)) flags) (cutLines false [] (drop i text)) ∙ both-sizes (drop i text) .0 [] ∙ omega (arith, length-drop i text)
+-- ---- the bytes of the lines from an index on
+size-from : (text flags : List ℕ) (i : ℕ) → sizes (linesAt text flags i) ≡ length text - i
+unfolding linesAt
+size-from text flags i = lines-size (drop (lineEndings (take i text)) flags) (drop i text) ∙ length-drop i text
 
 -- ---- the stop
 stop-from : (i n : ℕ) (ls : List Line) → i ≤ stopAfter i n ls
@@ -66,14 +34,14 @@ stop-from i (suc zero) (l ∷ ls) = omega arith
 stop-from i (suc (suc n)) (l ∷ []) = omega arith
 stop-from i (suc (suc n)) (l ∷ m ∷ ls) = let h = stop-from (i + length (l .content) + length (m .lead)) (suc n) (m ∷ ls) in omega arith
 
-stop-to : (i n : ℕ) (l : Line) (ls : List Line) → stopAfter i n (l ∷ ls) ≤ i + length (l .content) + size ls
+stop-to : (i n : ℕ) (l : Line) (ls : List Line) → stopAfter i n (l ∷ ls) ≤ i + length (l .content) + sizes ls
 unfolding stopAfter
 stop-to i zero l ls = omega arith
 stop-to i (suc zero) l ls = omega arith
 stop-to i (suc (suc n)) l [] = omega arith
 stop-to i (suc (suc n)) l (m ∷ ls) = let h = stop-to (i + length (l .content) + length (m .lead)) (suc n) m ls in omega arith
 
-found-between : (i n : ℕ) (ls : List Line) (kind stop : ℕ) (closed : Bool) → size ls ≡ n - i → i ≤ n → blockOf ofCrate i ls ≡ foundBlock kind stop closed → Between i stop n
+found-between : (i n : ℕ) (ls : List Line) (kind stop : ℕ) (closed : Bool) → sizes ls ≡ n - i → i ≤ n → blockOf ofCrate i ls ≡ foundBlock kind stop closed → Between i stop n
 unfolding blockOf
 found-between i n [] kind stop closed e h f = let z : _≡_ {A = ℕ} 0 1 = cc in absurd (omega arith)
 found-between i n (l ∷ ls) kind stop closed e h f =
@@ -113,7 +81,7 @@ module _ (text flags : List ℕ) (i : ℕ) where
 
   pub block-between : i ≤ length text → (kind stop : ℕ) (closed : Bool) → blockAt ofCrate text flags i ≡ foundBlock kind stop closed → Between i stop (length text)
   unfolding blockAt
-  block-between h kind stop closed f = found-between i (length text) (linesAt text flags i) kind stop closed (lines-size text flags i) h f
+  block-between h kind stop closed f = found-between i (length text) (linesAt text flags i) kind stop closed (size-from text flags i) h f
 
   -- ---- by the answer
   no-refusal : (ls : List Line) (m : ℕ) → blockOf ofCrate i ls ≡ refusedBlock m → ⊥

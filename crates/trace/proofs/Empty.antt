@@ -14,20 +14,8 @@ use Rattle.lexical.specs.Line.{lineEnding}
 use Rattle.lexical.proofs.Cases.{split}
 use Rattle.rules.specs.Lines.{Line, line, push, cutLines}
 use Rattle.rules.specs.Trace.{endsEmpty, taken, flowExit}
+use Rattle.rules.proofs.LineLaws.{push-length, some-lines}
 use Rattle.lexical.proofs.Ending.{ending-length}
-
-push-length : (x : ℕ) (ls : List Line) → length (push x ls) ≡ length ls
-push-length x [] = refl
-push-length x (l ∷ ls) = refl
-
--- there is a line
-pub some-lines : (cr : Bool) (e s : List ℕ) → 0 < length (cutLines cr e s)
-unfolding cutLines
-some-lines cr e [] = omega arith
-some-lines cr e (x ∷ xs) =
-    split (eqb x (byte "\n"))
-    (λ h. split cr (λ r. simp (h, r) (some-lines false (byte "\r" ∷ byte "\n" ∷ []) xs)) (λ r. simp (h, r) (omega arith)))
-    (λ h. split (eqb x (byte "\r")) (λ r. simp (h, r) (omega arith)) (λ r. simp (h, r) (let l = some-lines false e xs in omega (arith, push-length x (cutLines false e xs)))))
 
 later : (l : Line) (ls : List Line) → 0 < length ls → endsEmpty (l ∷ ls) ≡ endsEmpty ls
 unfolding endsEmpty

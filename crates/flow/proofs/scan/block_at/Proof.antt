@@ -15,7 +15,7 @@ use Rattle.rules.specs.Lines.{linesOf}
 use Rattle.rules.specs.Scan.{noBlock, blockOf}
 use Rattle.rules.specs.declared.Rules.{Rules}
 use Rattle.flow.specs.Answer.{kindNumber, openingNumber}
-use Rattle.flow.specs.BlockMachine.{contentFrom}
+use Rattle.rules.proofs.LineLaws.{contentFrom}
 use Rattle.flow.proofs.OpenSteps.{no-kind}
 use Rattle.flow.proofs.BlockSteps.{no-block, first-closes, first-on, has-number}
 use borrow.Author.Needs.{needs}

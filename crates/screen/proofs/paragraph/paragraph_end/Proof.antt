@@ -3,7 +3,8 @@ use Prim.Native.Nat.{_+_, _-_}
 use native.Mathlib.Omega.{arith}
 use lib.ListN.{length, drop}
 use Rattle.lexical.specs.Line.{lineLength}
-use Rattle.screen.proofs.Paragraphs.{Along, along-first, along-next, farther, ends-before, ends-with}
+use Rattle.screen.proofs.Paragraphs.{Along, along-first, along-next, ends-before, ends-with}
+use Rattle.screen.proofs.FromLine.{farther}
 use borrow.Author.Needs.{needs}
 use Rattle.screen.proofs.paragraph.paragraph_end.Statement.{statement}
 use Rattle.screen.proofs.paragraph.paragraph_end.Tie as tie
@@ -40,7 +41,7 @@ next-number-requires-2 c κs = search needs
 
 loop-less : tie.Need-loop-less Inv-loop μ-loop
 loop-less c = let a = c .before .before .before .before .before .before .before .before .before .before .before .args in
-    let h = farther (a .rules) (a .bulletin .now) (a .flags .now) _ _ _ _ (c .before .before .before .before .before .before .loop .inv) _ _ (c .before .before .before .before .next-line .ensures) (c .before .line-end2 .ensures) (c .before .before .before .before .before .loop-test .taken) in search (needs, h)
+    let h = farther (a .bulletin .now) (c .before .before .before .before .before .before .loop .stop) _ _ (c .before .before .before .before .next-line .ensures) (c .before .line-end2 .ensures) (c .before .before .before .before .before .before .loop .inv .ended) (c .before .before .before .before .before .loop-test .taken) in search (needs, h)
 
 loop-again : tie.Need-loop-again Inv-loop μ-loop
 loop-again c = let a = c .before .before .before .before .before .before .before .before .before .before .before .args in along-next (a .rules) (a .bulletin .now) (a .flags .now) _ _ _ _ (c .before .before .before .before .before .before .loop .inv) _ _ (c .before .before .before .before .next-line .ensures) (c .before .line-end2 .ensures) (c .before .before .before .before .before .loop-test .taken) _ (c .next-number2 .ensures) (sym (c .before .before .before .ends-paragraph .ensures) ∙ c .before .before .if1 .left)

@@ -7,7 +7,8 @@ use lib.ListN.{length, drop}
 use borrow.Author.Tests.{ltb-true}
 use Rattle.lexical.specs.Line.{lineLength}
 use Rattle.lexical.proofs.Cases.{and-left, and-right}
-use Rattle.screen.proofs.BlockLines.{Passing, passing-first, passing-next, farther, block-end}
+use Rattle.screen.proofs.BlockLines.{Passing, passing-first, passing-next, block-end}
+use Rattle.screen.proofs.FromLine.{farther}
 use borrow.Author.Needs.{needs}
 use Rattle.screen.proofs.pieces.block_end.Statement.{statement}
 use Rattle.screen.proofs.pieces.block_end.Tie as tie
@@ -41,7 +42,7 @@ loop-less c = let a = c .before .before .before .before .before .before .before 
     let e = c .before .before .before .before .loop .end in
     let t : (ltb e (a .stop) && ltb e (length (a .bulletin .now))) ≡ true = c .before .before .before .loop-test .taken in
     let l = ltb-true e (length (a .bulletin .now)) (and-right (ltb e (a .stop)) (ltb e (length (a .bulletin .now))) t) in
-    let h = farther (a .bulletin .now) (a .flags .now) (a .stop) _ _ _ _ (c .before .before .before .before .loop .inv) _ _ (c .before .before .next-line .ensures) (c .before .line-end2 .ensures) l in search (needs, h, l)
+    let h = farther (a .bulletin .now) e _ _ (c .before .before .next-line .ensures) (c .before .line-end2 .ensures) (c .before .before .before .before .loop .inv .ended) l in search (needs, h, l)
 
 loop-again : tie.Need-loop-again Inv-loop μ-loop
 loop-again c = let a = c .before .before .before .before .before .before .before .before .before .args in

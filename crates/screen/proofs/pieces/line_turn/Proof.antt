@@ -1,10 +1,9 @@
 use mathlib.Core.Path.{refl, sym, _∙_, ap}
 use mathlib.Core.Bool.{true, false}
-use borrow.Author.Tests.{eqb-true}
+use borrow.Author.Tests.{eqb-true, not-false}
 use Rattle.lexical.proofs.Cases.{clash}
 use Rattle.flow.specs.Answer.{blockAnswerOf}
 use Rattle.screen.proofs.BlockLines.{opens, never-refused}
-use Rattle.screen.proofs.Paragraphs.{was-true}
 use borrow.Author.Needs.{needs}
 use Rattle.screen.proofs.pieces.line_turn.Statement.{statement}
 use Rattle.screen.proofs.pieces.line_turn.Tie as tie
@@ -23,7 +22,7 @@ enum-told c = search needs
 
 text-line-requires : tie.Need-text-line-requires
 text-line-requires c κs = let a = c .before .before .before .before .before .args in
-    (c .before .before .before .before .before .pre, eqb-true _ _ (was-true _ (opens (a .rules) (a .bulletin .now) (a .flags .now) (a .cursor .next) (a .cursor .line) _ (sym (c .before .before .block-at .ensures) ∙ ap blockAnswerOf (c .enum-told .given .1)))))
+    (c .before .before .before .before .before .pre, eqb-true _ _ (not-false _ (opens (a .rules) (a .bulletin .now) (a .flags .now) (a .cursor .next) (a .cursor .line) _ (sym (c .before .before .block-at .ensures) ∙ ap blockAnswerOf (c .enum-told .given .1)))))
 
 enum-told-2 : tie.Need-enum-told-2
 enum-told-2 c = search needs

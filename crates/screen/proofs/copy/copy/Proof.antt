@@ -3,11 +3,11 @@ use mathlib.Core.Path.{_≡_, refl, sym, _∙_, ap}
 use Prim.Native.Nat.{_+_, _-_}
 use native.Mathlib.Nat.{add-zero}
 use lib.ListN.{length, drop}
 use Rattle.lexical.specs.Buffer.{stored}
 use Rattle.lexical.proofs.Stores.{copy-turn, copy-end, same-set}
 use borrow.Author.Needs.{needs}
-use Rattle.lexical.proofs.copy.copy.Statement.{statement}
-use Rattle.lexical.proofs.copy.copy.Tie as tie
+use Rattle.screen.proofs.copy.copy.Statement.{statement}
+use Rattle.screen.proofs.copy.copy.Tie as tie
 
 abbrev Inv-loop : tie.InvT-loop
 Inv-loop part out₀ at i₀ out i = (length out ≡ length out₀) × (stored out (at + i) (drop i part) ≡ stored out₀ at part)

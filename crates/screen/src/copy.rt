@@ -1,8 +1,8 @@
 // Copying bytes into a lent buffer.
 ghost use Prim.Native.Nat.{_+_, _-_, _≤_};
 ghost use lib.ListN.{length, take, drop};
 ghost use Rattle.lexical.specs.Buffer.{Written};
-use crate::slice::from_indices;
+use lexical::slice::from_indices;
 
 // Copies all bytes of a part to a place with room for them.
 fn copy(part: &[u8], out: &mut [u8], at: usize)
@@ -17,7 +17,7 @@ fn copy(part: &[u8], out: &mut [u8], at: usize)
 }
 
 // Copies the bytes between two indices to a place of a buffer, as far as there are any and the buffer has room.
-pub fn copy_part(bytes: &[u8], start: usize, end: usize, out: &mut [u8], at: usize)
+pub(crate) fn copy_part(bytes: &[u8], start: usize, end: usize, out: &mut [u8], at: usize)
     ensures { λ r. ⌜ Written (now (out .entry)) at (take (length (now (out .entry)) - at) (take (end - start) (drop start (now (bytes .entry))))) (now (out .exit)) ⌝ }
 {
     if at < out.len() {

@@ -3,10 +3,10 @@ use mathlib.Core.List.{List, []}
 use Prim.Native.Nat.{ℕ, _-_, _≤_}
 use native.Mathlib.Omega.{arith}
 use lib.ListN.{length, take, drop, length-take}
 use Rattle.lexical.proofs.Stores.{nothing-written, written-as}
 use borrow.Author.Needs.{needs}
-use Rattle.lexical.proofs.copy.copy_part.Statement.{statement}
-use Rattle.lexical.proofs.copy.copy_part.Tie as tie
+use Rattle.screen.proofs.copy.copy_part.Statement.{statement}
+use Rattle.screen.proofs.copy.copy_part.Tie as tie
 
 -- the bytes that are found, cut to the room
 within-room : (room : ℕ) (part found : List ℕ) → part ≡ take (room - 0) (drop 0 found) → part ≡ take room found
