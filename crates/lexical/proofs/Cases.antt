@@ -1,5 +1,5 @@
 -- Laws of tests: cases on one, its parts, and what a byte's class says of the byte.
-use mathlib.Core.Path.{_≡_, refl}
+use mathlib.Core.Path.{_≡_, refl, _∙_, ap}
 use mathlib.Core.Bool.{Bool, true, false, _&&_, _||_}
 use Prim.Native.Nat.{ℕ}
 use native.Mathlib.Omega.{arith}
@@ -35,6 +35,9 @@ and-left false b e = e
 pub and-right : (a b : Bool) → (a && b) ≡ true → b ≡ true
 and-right true b e = e
 and-right false b e = cc
+
+pub and-both : {a b c d : Bool} → a ≡ b → c ≡ d → (a && c) ≡ (b && d)
+and-both {b = b} {c = c} e f = ap (λ t. t && c) e ∙ ap (λ t. b && t) f
 
 pub and-yes : (a : Bool) → (a && true) ≡ a
 and-yes true = refl

@@ -1,5 +1,5 @@
 -- Laws of line endings at an index of a text: what they are by the byte there and the one after it, and that they end within the text.
-use mathlib.Core.Path.{_≡_, refl, ap}
+use mathlib.Core.Path.{_≡_, refl, sym, _∙_, ap}
 use mathlib.Core.Bool.{Bool, true, false, _&&_, _||_, not}
 use mathlib.Core.List.{List, [], _∷_}
 use Prim.Native.Nat.{ℕ, zero, suc, _+_, _-_, _<_, _≤_}
@@ -10,8 +10,8 @@ use lib.ListN.{length, getD, drop, length-drop}
 use lib.Seq.{drop-drop}
 use Rattle.lexical.specs.Text.{byte, pick, first, run}
 use Rattle.lexical.specs.Byte.{isSpaceOrTab, isLineEndingByte}
-use Rattle.lexical.specs.Line.{lineEnding, endsLine, lineEndings, isLineStart, atLineEnd, isBlank}
-use Rattle.lexical.proofs.Cases.{split}
+use Rattle.lexical.specs.Line.{lineEnding, endsLine, lineEndings, isLineStart, lineLength, atLineEnd, isBlank}
+use Rattle.lexical.proofs.Cases.{split, or-left, or-right}
 use Rattle.lexical.proofs.Suffix.{suffix-in, suffix-out}
 
 module _ (s : List ℕ) (i : ℕ) where
@@ -44,6 +44,20 @@ module _ (s : List ℕ) (i : ℕ) where
   pub count-out : length s ≤ i → lineEndings (drop i s) ≡ 0
   unfolding lineEndings
   count-out h = rw (suffix-out s i h)
+
+-- ---- counting from ending to ending
+-- no byte of a line's content ends it
+inner-none : (x : ℕ) (xs : List ℕ) → isLineEndingByte x ≡ false → endsLine (x ∷ xs) ≡ false
+unfolding endsLine
+inner-none x xs h = rw (or-left (eqb x (byte "\n")) (eqb x (byte "\r")) h, or-right (eqb x (byte "\n")) (eqb x (byte "\r")) h)
+
+content-none : (s : List ℕ) → lineEndings s ≡ lineEndings (drop (lineLength s) s)
+unfolding lineEndings run
+content-none [] = refl
+content-none (x ∷ xs) = split (isLineEndingByte x) (λ h. simp h) (λ h. simp (h, inner-none x xs h) (content-none xs))
+
+pub count-behind : (s : List ℕ) (i j : ℕ) → j ≡ i + lineLength (drop i s) → lineEndings (drop i s) ≡ lineEndings (drop j s)
+count-behind s i j e = content-none (drop i s) ∙ ap lineEndings (drop-drop (lineLength (drop i s)) i s ∙ ap (λ n. drop n s) (sym e))
 
 -- ---- sizes
 pub ending-length : (s : List ℕ) → lineEnding s ≤ length s

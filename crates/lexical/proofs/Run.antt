@@ -1,14 +1,19 @@
 -- Laws of a run: a loop that passes the bytes of a class, one law for every class.
-use mathlib.Core.Path.{_≡_, refl, sym, _∙_}
-use mathlib.Core.Bool.{Bool, true, false}
+use mathlib.Core.Path.{_≡_, refl, sym, _∙_, ap}
+use mathlib.Core.Bool.{Bool, true, false, _&&_, not}
 use mathlib.Core.List.{List, [], _∷_}
-use Prim.Native.Nat.{ℕ, suc, _+_, _<_, _≤_}
+use Prim.Native.Nat.{ℕ, zero, suc, _+_, _<_, _≤_}
 use native.Mathlib.Numerals.{add-one}
 use native.Mathlib.Nat.{add-zero, add-suc, suc-add, add-assoc}
 use native.Mathlib.Omega.{arith}
-use lib.ListN.{length, getD, drop, drop-of-length-le}
-use Rattle.lexical.specs.Text.{run}
-use Rattle.lexical.proofs.Cases.{split}
+use lib.Dec.{eqb}
+use lib.ListN.{length, getD, take, drop, drop-of-length-le, length-drop}
+use lib.Seq.{drop-drop}
+use Rattle.lexical.specs.Text.{byte, run}
+use Rattle.lexical.specs.Byte.{isLineEndingByte}
+use Rattle.lexical.specs.Line.{isInner, lineLength}
+use Rattle.lexical.specs.Name.{all}
+use Rattle.lexical.proofs.Cases.{split, and-left, and-right, and-yes}
 use Rattle.lexical.proofs.Suffix.{suffix-in, suffix-out}
 
 -- where the run of a class that begins at an index of a text ends
@@ -33,3 +38,56 @@ pub run-length : (f : ℕ → Bool) (s : List ℕ) → run f s ≤ length s
 unfolding run
 run-length f [] = omega arith
 run-length f (x ∷ xs) = split (f x) (λ h. let l = run-length f xs in simp h (omega arith)) (λ h. simp h (omega arith))
+
+-- two classes that are the same
+pub run-same : (f g : ℕ → Bool) → ((x : ℕ) → f x ≡ g x) → (s : List ℕ) → run f s ≡ run g s
+unfolding run
+run-same f g e [] = refl
+run-same f g e (x ∷ xs) = split (g x) (λ h. simp (e x ∙ h, h) (ap suc (run-same f g e xs))) (λ h. simp (e x ∙ h, h))
+
+-- ---- several bytes at once
+many : (f : ℕ → Bool) (n : ℕ) (s : List ℕ) → n ≤ length s → all f (take n s) ≡ true → run f s ≡ n + run f (drop n s)
+unfolding run all
+many f zero s l h = omega arith
+many f (suc n) [] l h = absurd (omega arith)
+many f (suc n) (x ∷ s) l h =
+    let e = many f n s (omega arith) (and-right (f x) (all f (take n s)) h) in rw (and-left (f x) (all f (take n s)) h) (omega (arith, e))
+
+pub run-many : (f : ℕ → Bool) (n : ℕ) (s : List ℕ) (i : ℕ) → i + n ≤ length s → all f (take n (drop i s)) ≡ true → runEnd f s (i + n) ≡ runEnd f s i
+run-many f n s i l h =
+    let e = many f n (drop i s) (omega (arith, length-drop i s)) h in
+    let d : run f (drop n (drop i s)) ≡ run f (drop (i + n) s) = ap (run f) (drop-drop n i s) in
+    omega (arith, e, d)
+
+-- the first of them, and the others
+one : (f : ℕ → Bool) (n : ℕ) (s : List ℕ) (i j : ℕ) → i + 1 ≡ j → i < length s → all f (take (suc n) (drop i s)) ≡ (f (getD s i 0) && all f (take n (drop j s)))
+unfolding all
+one f n s i j e h = rw (suffix-in s i h, e) refl
+
+pub all-eight : (f : ℕ → Bool) (s : List ℕ) (i : ℕ) → i + 8 ≤ length s
+    → all f (take 8 (drop i s))
+    ≡ (f (getD s i 0) && (f (getD s (i + 1) 0) && (f (getD s (i + 2) 0) && (f (getD s (i + 3) 0) && (f (getD s (i + 4) 0) && (f (getD s (i + 5) 0) && (f (getD s (i + 6) 0) && f (getD s (i + 7) 0))))))))
+unfolding all
+all-eight f s i h =
+    one f 7 s i (i + 1) refl (omega arith)
+    ∙ ap (λ b. f (getD s i 0) && b)
+    (one f 6 s (i + 1) (i + 2) (omega arith) (omega arith)
+    ∙ ap (λ b. f (getD s (i + 1) 0) && b)
+    (one f 5 s (i + 2) (i + 3) (omega arith) (omega arith)
+    ∙ ap (λ b. f (getD s (i + 2) 0) && b)
+    (one f 4 s (i + 3) (i + 4) (omega arith) (omega arith)
+    ∙ ap (λ b. f (getD s (i + 3) 0) && b)
+    (one f 3 s (i + 4) (i + 5) (omega arith) (omega arith)
+    ∙ ap (λ b. f (getD s (i + 4) 0) && b)
+    (one f 2 s (i + 5) (i + 6) (omega arith) (omega arith)
+    ∙ ap (λ b. f (getD s (i + 5) 0) && b)
+    (one f 1 s (i + 6) (i + 7) (omega arith) (omega arith)
+    ∙ ap (λ b. f (getD s (i + 6) 0) && b)
+    (one f 0 s (i + 7) (i + 8) (omega arith) (omega arith) ∙ and-yes (f (getD s (i + 7) 0)))))))))
+
+-- ---- with a mark that is a byte of a line ending, only those are looked for
+ending-mark : (b : ℕ) → isInner (byte "\n") b ≡ not (isLineEndingByte b)
+ending-mark b = split (eqb b (byte "\n")) (λ h. simp h) (λ h. simp h)
+
+pub line-length : (s : List ℕ) → run (isInner (byte "\n")) s ≡ lineLength s
+line-length s = run-same (isInner (byte "\n")) (λ b. not (isLineEndingByte b)) ending-mark s

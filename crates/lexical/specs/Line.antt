@@ -31,6 +31,10 @@ unfoldable pub isLineStart : List ℕ → ℕ → Bool
 isLineStart s zero = true
 isLineStart s (suc i) = endsLine (drop i s)
 
+-- a byte of a line's content that is not a mark
+abbrev pub isInner : ℕ → ℕ → Bool
+isInner mark b = not (eqb b mark || isLineEndingByte b)
+
 -- how many bytes stand in front of the line's ending
 abbrev pub lineLength : List ℕ → ℕ
 lineLength s = run (λ b. not (isLineEndingByte b)) s

@@ -1,10 +1,11 @@
 // Lines of a text. LF, CR LF and CR end a line; there is one line more than there are line endings.
 ghost use mathlib.Core.Path.{_≡_};
-ghost use Prim.Native.Nat.{_+_};
-ghost use lib.ListN.{drop};
+ghost use Prim.Native.Nat.{_+_, _≤_};
+ghost use lib.ListN.{length, take, drop};
 ghost use Rattle.lexical.specs.Text.{run};
 ghost use Rattle.lexical.specs.Byte.{isSpaceOrTab};
-ghost use Rattle.lexical.specs.Line.{lineEnding, endsLine, lines, isLineStart, lineLength, isBlank};
+ghost use Rattle.lexical.specs.Line.{lineEnding, endsLine, lines, isLineStart, isInner, lineLength, isBlank};
+ghost use Rattle.lexical.specs.Name.{all};
 use crate::byte::is_line_ending_byte;
 use crate::byte::is_space_or_tab;
 use crate::byte::peek;
@@ -64,10 +65,10 @@ pub fn count_lines(bytes: &[u8]) -> usize
     ensures { λ r. ⌜ r ≡ lines (now (bytes .entry)) ⌝ }
 {
     let mut count = 1;
-    let mut i = 0;
+    let mut i = line_end(bytes, 0);
     while i < bytes.len() {
         let index = i;
-        i += 1;
+        i = line_end(bytes, index + 1);
         if ends_line(bytes, index) {
             count += 1;
         }
@@ -85,18 +86,64 @@ pub fn is_line_start(bytes: &[u8], index: usize) -> bool
     ends_line(bytes, index - 1)
 }
 
-// Where the content of the line ends: before its ending, or at the end of the text.
-pub fn line_end(bytes: &[u8], index: usize) -> usize
-    ensures { λ r. ⌜ r ≡ index + lineLength (drop index (now (bytes .entry))) ⌝ }
+// Whether a byte is neither a mark nor of a line ending.
+fn is_inner(b: u8, mark: u8) -> bool
+    ensures { λ r. ⌜ r ≡ isInner mark b ⌝ }
+{
+    !((b == mark) | ((b == b'\n') | (b == b'\r')))
+}
+
+// Whether the eight bytes at an index are: one test for all of them.
+fn are_inner(bytes: &[u8], index: usize, mark: u8) -> bool
+    requires { ⌜ index + 8 ≤ length (now bytes) ⌝ }
+    ensures { λ r. ⌜ r ≡ all (isInner mark) (take 8 (drop index (now (bytes .entry)))) ⌝ }
+{
+    is_inner(bytes[index], mark)
+        & (is_inner(bytes[index + 1], mark)
+            & (is_inner(bytes[index + 2], mark)
+                & (is_inner(bytes[index + 3], mark)
+                    & (is_inner(bytes[index + 4], mark)
+                        & (is_inner(bytes[index + 5], mark)
+                            & (is_inner(bytes[index + 6], mark)
+                                & is_inner(bytes[index + 7], mark)))))))
+}
+
+// Past the bytes at an index that are, eight by eight.
+fn skip_eights(bytes: &[u8], index: usize, mark: u8) -> usize
+    ensures { λ r. ⌜ r + run (isInner mark) (drop r (now (bytes .entry))) ≡ index + run (isInner mark) (drop index (now (bytes .entry))) ⌝ }
 {
     let mut i = index;
     while i < bytes.len() {
-        if is_line_ending_byte(bytes[i]) {
+        if bytes.len() - i < 8 {
+            return i;
+        }
+        if !are_inner(bytes, i, mark) {
+            return i;
+        }
+        i += 8;
+    }
+    i
+}
+
+// The first mark of the line from an index on, or where its content ends: before its ending, or at the end of the text.
+pub fn mark_or_line_end(bytes: &[u8], index: usize, mark: u8) -> usize
+    ensures { λ r. ⌜ r ≡ index + run (isInner mark) (drop index (now (bytes .entry))) ⌝ }
+{
+    let mut i = skip_eights(bytes, index, mark);
+    while i < bytes.len() {
+        if !is_inner(bytes[i], mark) {
             return i;
         }
         i += 1;
     }
     i
+}
+
+// Where the content of the line ends.
+pub fn line_end(bytes: &[u8], index: usize) -> usize
+    ensures { λ r. ⌜ r ≡ index + lineLength (drop index (now (bytes .entry))) ⌝ }
+{
+    mark_or_line_end(bytes, index, b'\n')
 }
 
 // Past the spaces and tabs at an index.

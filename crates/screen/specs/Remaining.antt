@@ -7,8 +7,7 @@ use Prim.Native.Nat.{ℕ, _+_, _<_, _≤_}
 use lib.Dec.{eqb}
 use lib.ListN.{length, getD, take, drop}
 use Rattle.lexical.specs.Text.{byte}
-use Rattle.lexical.specs.Byte.{isLineEndingByte}
-use Rattle.lexical.specs.Line.{lineLength, isBlank}
+use Rattle.lexical.specs.Line.{isInner, lineLength, isBlank}
 use Rattle.rules.specs.Inline.{takes, lacks, readInline}
 use Rattle.rules.specs.Lines.{Line, line, linesOf}
 use Rattle.rules.specs.Block.{kindOf}
@@ -35,7 +34,7 @@ use Rattle.screen.specs.declared.withhold.Withheld.{Withheld}
 -- ---- lines
 -- a byte of a line that is no `<`
 abbrev pub isPlain : ℕ → Bool
-isPlain b = not (eqb b (byte "<") || isLineEndingByte b)
+isPlain b = isInner (byte "<") b
 
 -- the line at an index, with its number
 abbrev pub lineAt : List ℕ → List ℕ → ℕ → ℕ → Line

@@ -18,6 +18,7 @@ use flow::scan::Block;
 use flow::scan::block_at;
 use lexical::byte::peek;
 use lexical::line::line_end;
+use lexical::line::mark_or_line_end;
 use lexical::line::next_line;
 use lexical::slice::from_indices;
 use rules::Rules;
@@ -67,21 +68,6 @@ pub(crate) fn at_line(next: usize, line: usize) -> Cursor
     }
 }
 
-// The first `<` of a line from an index on, or the end of its content.
-fn open_or_line_end(bulletin: &[u8], index: usize) -> usize
-    ensures { λ r. ⌜ r ≡ index + run isPlain (drop index (now (bulletin .entry))) ⌝ }
-{
-    let mut i = index;
-    while i < bulletin.len() {
-        let b = bulletin[i];
-        if (b == b'<') | ((b == b'\n') | (b == b'\r')) {
-            return i;
-        }
-        i += 1;
-    }
-    i
-}
-
 // Where the content of a block's last line ends, and the number of the line behind it. The block begins with the line at an index and ends at stop.
 fn block_end(bulletin: &[u8], flags: &[u8], index: usize, line: usize, stop: usize) -> End
     requires { ⌜ index ≤ length (now bulletin) ⌝ }
@@ -119,7 +105,7 @@ fn text_line(rules: Rules, bulletin: &[u8], flags: &[u8], cursor: Cursor) -> Tur
     requires { ⌜ kindOf rules (lineAt (now bulletin) (now flags) (cursor .next) (cursor .line)) ≡ 0 ⌝ }
     ensures { λ r. ⌜ TurnTo rules (now (bulletin .entry)) (now (flags .entry)) cursor r ⌝ }
 {
-    let opening = open_or_line_end(bulletin, cursor.next);
+    let opening = mark_or_line_end(bulletin, cursor.next, b'<');
     if peek(bulletin, opening) != 60 {
         return Turn::Line {
             cursor: at_line(

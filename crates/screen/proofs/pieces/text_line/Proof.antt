@@ -7,8 +7,8 @@ use borrow.Author.Needs.{needs}
 use Rattle.screen.proofs.pieces.text_line.Statement.{statement}
 use Rattle.screen.proofs.pieces.text_line.Tie as tie
 
-open-or-line-end-requires : tie.Need-open-or-line-end-requires
-open-or-line-end-requires c κs = search needs
+mark-or-line-end-requires : tie.Need-mark-or-line-end-requires
+mark-or-line-end-requires c κs = search needs
 
 peek-requires : tie.Need-peek-requires
 peek-requires c κs = search needs
@@ -24,7 +24,7 @@ at-line-requires c κs = search needs
 
 returns : tie.Need-returns
 returns c = let a = c .before .before .before .before .before .before .before .before .args in let pre = c .before .before .before .before .before .before .before .before .pre in
-    plain-same (a .rules) (a .bulletin .now) (a .flags .now) (a .cursor) (pre .0) (pre .1) _ (c .before .before .before .before .before .open-or-line-end .ensures) (λ f. c .before .before .before .if1 .taken (c .before .before .before .before .peek .ensures ∙ f)) _ _ _ (c .before .before .next-line .ensures) (c .before .next-number .ensures) (c .at-line .ensures)
+    plain-same (a .rules) (a .bulletin .now) (a .flags .now) (a .cursor) (pre .0) (pre .1) _ (c .before .before .before .before .before .mark-or-line-end .ensures) (λ f. c .before .before .before .if1 .taken (c .before .before .before .before .peek .ensures ∙ f)) _ _ _ (c .before .before .next-line .ensures) (c .before .next-number .ensures) (c .at-line .ensures)
 
 paragraph-end-requires : tie.Need-paragraph-end-requires
 paragraph-end-requires c κs = search needs
@@ -40,7 +40,7 @@ all-ahead-requires c κs = search needs
 
 next-inline-requires : tie.Need-next-inline-requires
 next-inline-requires c κs = let a = c .before .before .before .before .before .before .before .before .before .args in let pre = c .before .before .before .before .before .before .before .before .before .pre in let k = c .all-ahead .ensures in
-    let l = open-within (a .rules) (a .bulletin .now) (a .flags .now) (a .cursor) (pre .0) (pre .1) _ (c .before .before .before .before .before .before .open-or-line-end .ensures) (sym (c .before .before .before .before .before .peek .ensures) ∙ c .before .before .before .before .if1 .left) _ (c .before .before .before .paragraph-end .ensures) _ (c .before .from-indices .ensures) in
+    let l = open-within (a .rules) (a .bulletin .now) (a .flags .now) (a .cursor) (pre .0) (pre .1) _ (c .before .before .before .before .before .before .mark-or-line-end .ensures) (sym (c .before .before .before .before .before .peek .ensures) ∙ c .before .before .before .before .if1 .left) _ (c .before .before .before .paragraph-end .ensures) _ (c .before .from-indices .ensures) in
     (omega (arith, l), known-all _ (ap (λ m. m .comment) k) (ap (λ m. m .instruction) k) (ap (λ m. m .declaration) k) (ap (λ m. m .cdata) k) _)
 
 enum-known-start : tie.Need-enum-known-start
@@ -54,19 +54,19 @@ at-line-requires-2 c κs = search needs
 
 returns-2 : tie.Need-returns-2
 returns-2 c = let a = c .before .before .before .before .before .before .before .before .before .before .before .before .before .args in let pre = c .before .before .before .before .before .before .before .before .before .before .before .before .before .pre in
-    leads-inline (a .rules) (a .bulletin .now) (a .flags .now) (a .cursor) (pre .0) (pre .1) _ (c .before .before .before .before .before .before .before .before .before .before .open-or-line-end .ensures) (sym (c .before .before .before .before .before .before .before .before .before .peek .ensures) ∙ c .before .before .before .before .before .before .before .before .if1 .left) _ (c .before .before .before .before .before .before .before .paragraph-end .ensures) _ (c .before .before .before .before .before .from-indices .ensures) _ (c .before .before .before .before .before .before .next-line2 .ensures) _ _ _
+    leads-inline (a .rules) (a .bulletin .now) (a .flags .now) (a .cursor) (pre .0) (pre .1) _ (c .before .before .before .before .before .before .before .before .before .before .mark-or-line-end .ensures) (sym (c .before .before .before .before .before .before .before .before .before .peek .ensures) ∙ c .before .before .before .before .before .before .before .before .if1 .left) _ (c .before .before .before .before .before .before .before .paragraph-end .ensures) _ (c .before .before .before .before .before .from-indices .ensures) _ (c .before .before .before .before .before .before .next-line2 .ensures) _ _ _
     (subst (NextInline (a .rules) _ _) (c .before .start .given .1) (c .before .before .before .next-inline .ensures))
 
 returns-3 : tie.Need-returns-3
 returns-3 c = let a = c .before .before .before .before .before .before .before .before .before .before .before .before .before .args in let pre = c .before .before .before .before .before .before .before .before .before .before .before .before .before .pre in
-    paragraph-same (a .rules) (a .bulletin .now) (a .flags .now) (a .cursor) (pre .0) (pre .1) _ (c .before .before .before .before .before .before .before .before .before .before .open-or-line-end .ensures) (sym (c .before .before .before .before .before .before .before .before .before .peek .ensures) ∙ c .before .before .before .before .before .before .before .before .if1 .left) _ (c .before .before .before .before .before .before .before .paragraph-end .ensures) _ (c .before .before .before .before .before .from-indices .ensures) _ (c .before .before .before .before .before .before .next-line2 .ensures) _ (c .at-line2 .ensures)
+    paragraph-same (a .rules) (a .bulletin .now) (a .flags .now) (a .cursor) (pre .0) (pre .1) _ (c .before .before .before .before .before .before .before .before .before .before .mark-or-line-end .ensures) (sym (c .before .before .before .before .before .before .before .before .before .peek .ensures) ∙ c .before .before .before .before .before .before .before .before .if1 .left) _ (c .before .before .before .before .before .before .before .paragraph-end .ensures) _ (c .before .before .before .before .before .from-indices .ensures) _ (c .before .before .before .before .before .before .next-line2 .ensures) _ (c .at-line2 .ensures)
     (subst (NextInline (a .rules) _ _) (c .before .enum-told .given .1) (c .before .before .before .next-inline .ensures))
 
 pub text-line-spec : {M : Type 1} → statement M
 text-line-spec =
     tie.close
     (tie.spec
-    open-or-line-end-requires
+    mark-or-line-end-requires
     peek-requires
     next-line-requires
     next-number-requires
