@@ -243,6 +243,21 @@ pub enum Kind {
     Complete,
 }
 
+// 01's number of a kind.
+pub fn kind_number(kind: Kind) -> u8
+    ensures { λ r. ⌜ r ≡ kindNumber kind ⌝ }
+{
+    match kind {
+        Kind::Raw => 1,
+        Kind::Comment => 2,
+        Kind::Instruction => 3,
+        Kind::Declaration => 4,
+        Kind::Cdata => 5,
+        Kind::Basic => 6,
+        Kind::Complete => 7,
+    }
+}
+
 // What a line opens.
 pub enum Opening {
     Shut,

@@ -2,7 +2,7 @@
 //
 // Of the 103 inline cases 69 are 01's rows for html_text.rs, more of the same kinds, and the refusals 4, 5 and 6; of the 329 block cases 271 are 01's rows for html_flow.rs, more of the same kinds, and the refusals 2, 3 and 4. The last 92 lines are from CommonMark 0.31.2 (CC BY-SA 4.0): each `<` of the 20 examples of Raw HTML (34 cases; a paragraph is a text), and in 42 of the 44 examples of HTML blocks, those without containers, each line outside a block that begins with `<` behind spaces (58 cases; the flag is 2 behind a line of a paragraph, else 0). The answers are those of the Rust crate markdown 1.0.0; the refusals are 01's table.
 ghost use Prim.Native.Nat.{_≤_};
-use flow::html_flow::Kind;
+use flow::html_flow::kind_number;
 use flow::scan::Block;
 use html::tokenizer::Inline;
 use lexical::byte::peek;
@@ -79,19 +79,6 @@ fn flags_end(line: &[u8], out: &mut [u8]) -> usize
     i
 }
 
-// 01's number of a kind.
-fn number_of(kind: Kind) -> u8 {
-    match kind {
-        Kind::Raw => 1,
-        Kind::Comment => 2,
-        Kind::Instruction => 3,
-        Kind::Declaration => 4,
-        Kind::Cdata => 5,
-        Kind::Basic => 6,
-        Kind::Complete => 7,
-    }
-}
-
 fn put(word: &[u8], number: u64) {
     io::write_all(1, word);
     io::print_decimal(1, number);
@@ -117,7 +104,7 @@ fn show_inline(answer: Inline) {
 fn show_block(answer: Block) {
     match answer {
         Block::Found { kind, stop, closed } => {
-            put(b"found ", number_of(kind) as u64);
+            put(b"found ", kind_number(kind) as u64);
             put(b" ", stop as u64);
             if closed {
                 io::write_all(1, b" yes");

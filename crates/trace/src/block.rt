@@ -8,7 +8,6 @@ ghost use Rattle.rules.specs.Block.{indentation};
 ghost use Rattle.rules.specs.Refusal.{outputRefusal};
 ghost use Rattle.rules.specs.Scan.{foundBlock};
 ghost use Rattle.rules.specs.Trace.{taken, endsEmpty, flowExit, eventBytes, lastBytes, blockTrace};
-ghost use Rattle.flow.specs.Answer.{kindNumber};
 ghost use Rattle.trace.specs.Answer.{Traces, tracedOf, blockTraced, blockBuffer};
 ghost use Rattle.lexical.specs.Buffer.{Written};
 ghost use Rattle.trace.specs.Writing.{eventLength, lastLength};
@@ -26,7 +25,7 @@ use crate::tracer::trace_last;
 use crate::writer::EVENT_LENGTH;
 use crate::writer::LAST_LENGTH;
 use crate::writer::write_last;
-use flow::html_flow::Kind;
+use flow::html_flow::kind_number;
 use flow::scan::Block;
 use flow::scan::block_scan;
 use lexical::byte::is_line_ending_byte;
@@ -154,21 +153,6 @@ fn trace_flow(
     let exit = flow_exit(text, index, kind, stop, closed);
     write_flow(text, front, index, exit, stop, kind, out);
     Traced::Length(length)
-}
-
-// 01's number of a kind.
-fn kind_number(kind: Kind) -> u8
-    ensures { λ r. ⌜ r ≡ kindNumber kind ⌝ }
-{
-    match kind {
-        Kind::Raw => 1,
-        Kind::Comment => 2,
-        Kind::Instruction => 3,
-        Kind::Declaration => 4,
-        Kind::Cdata => 5,
-        Kind::Basic => 6,
-        Kind::Complete => 7,
-    }
 }
 
 // The trace of a block scan.

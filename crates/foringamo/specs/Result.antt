@@ -1,0 +1,41 @@
+-- The structs of the C interface, of each answer: 01's numbers and values, and 0 where there is none. A refusal has its number, zero counts and stops, and the
+-- carry passed in.
+use Prim.Native.Nat.{ℕ}
+use mathlib.Core.Bool.{Bool, true, false}
+use Rattle.rules.specs.Scan.{InlineAnswer, foundInline, noInline, refusedInline, BlockAnswer, foundBlock, noBlock, refusedBlock}
+use Rattle.rules.specs.Trace.{Record, eventRecord, lastRecord, refusedRecord}
+use Rattle.rules.specs.Withhold.{Shown, shows, refusedShown}
+use Rattle.trace.specs.Answer.{TraceAnswer, traced, refusedTrace}
+use Rattle.foringamo.specs.declared.block.BlockResult.{BlockResult}
+use Rattle.foringamo.specs.declared.inline.InlineResult.{InlineResult}
+use Rattle.foringamo.specs.declared.traced.TraceResult.{TraceResult}
+use Rattle.foringamo.specs.declared.record.RecordResult.{RecordResult}
+use Rattle.foringamo.specs.declared.shown.ShownResult.{ShownResult}
+
+-- yes is 1, no is 0
+abbrev pub flag : Bool → ℕ
+flag true = 1
+flag false = 0
+
+abbrev pub blockResult : BlockAnswer → BlockResult
+blockResult (foundBlock kind stop closed) = record { refusal = 0; kind = kind; closed = flag closed; stop = stop }
+blockResult noBlock = record { refusal = 0; kind = 0; closed = 0; stop = 0 }
+blockResult (refusedBlock n) = record { refusal = n; kind = 0; closed = 0; stop = 0 }
+
+abbrev pub inlineResult : InlineAnswer → InlineResult
+inlineResult (foundInline stop carry) = record { refusal = 0; found = 1; carry = carry; stop = stop }
+inlineResult (noInline carry) = record { refusal = 0; found = 0; carry = carry; stop = 0 }
+inlineResult (refusedInline n carry) = record { refusal = n; found = 0; carry = carry; stop = 0 }
+
+abbrev pub traceResult : TraceAnswer → TraceResult
+traceResult (traced n) = record { refusal = 0; length = n }
+traceResult (refusedTrace n) = record { refusal = n; length = 0 }
+
+abbrev pub recordResult : Record → RecordResult
+recordResult (eventRecord kind line column index vs) = record { refusal = 0; kind = kind; last = vs; line = line; column = column; index = index }
+recordResult (lastRecord kind stop value) = record { refusal = 0; kind = kind; last = value; line = 0; column = 0; index = stop }
+recordResult (refusedRecord n) = record { refusal = n; kind = 0; last = 0; line = 0; column = 0; index = 0 }
+
+abbrev pub shownResult : Shown → ShownResult
+shownResult (shows n count) = record { refusal = 0; length = n; pieces = count }
+shownResult (refusedShown n) = record { refusal = n; length = 0; pieces = 0 }

@@ -1,0 +1,66 @@
+// The block scan and its trace.
+ghost use mathlib.Core.Path.{_≡_};
+ghost use lib.ListN.{length};
+ghost use Rattle.rules.specs.Reading.{crate as ofCrate};
+ghost use Rattle.rules.specs.Scan.{blockScan};
+ghost use Rattle.trace.specs.Answer.{blockTraced, blockBuffer};
+ghost use Rattle.foringamo.specs.Result.{blockResult, traceResult};
+use crate::traced::TraceResult;
+use crate::traced::trace_result;
+use flow::html_flow::kind_number;
+use flow::scan::Block;
+use flow::scan::block_scan;
+use trace::block::block_trace;
+
+// What a block scan gives.
+#[repr(C)]
+pub struct BlockResult {
+    // 0: not refused.
+    pub refusal: u8,
+    // 1 to 7. 0: no block.
+    pub kind: u8,
+    // 1: a closer was met.
+    pub closed: u8,
+    pub stop: usize,
+}
+
+// The block that the line at an index opens.
+#[no_mangle]
+pub extern "C" fn foringamo_block_scan(bulletin: &[u8], flags: &[u8], index: usize) -> BlockResult
+    ensures { λ r. ⌜ r ≡ blockResult (blockScan ofCrate (now (bulletin .entry)) (now (flags .entry)) index) ⌝ }
+{
+    match block_scan(bulletin, flags, index) {
+        Block::Found { kind, stop, closed } => BlockResult {
+            refusal: 0,
+            kind: kind_number(kind),
+            closed: closed as u8,
+            stop,
+        },
+        Block::Missing => BlockResult {
+            refusal: 0,
+            kind: 0,
+            closed: 0,
+            stop: 0,
+        },
+        Block::Refused { refusal } => BlockResult {
+            refusal,
+            kind: 0,
+            closed: 0,
+            stop: 0,
+        },
+    }
+}
+
+// The trace of a block scan.
+#[no_mangle]
+pub extern "C" fn foringamo_block_trace(
+    bulletin: &[u8],
+    flags: &[u8],
+    index: usize,
+    out: &mut [u8],
+) -> TraceResult
+    ensures { λ r. ⌜ r ≡ traceResult (blockTraced (now (bulletin .entry)) (now (flags .entry)) index (length (now (out .entry)))) ⌝ }
+    ensures { λ r. ⌜ now (out .exit) ≡ blockBuffer (now (bulletin .entry)) (now (flags .entry)) index (now (out .entry)) ⌝ }
+{
+    trace_result(block_trace(bulletin, flags, index, out))
+}

@@ -1,0 +1,64 @@
+// The inline scan and its trace.
+ghost use mathlib.Core.Path.{_≡_};
+ghost use lib.ListN.{length};
+ghost use Rattle.rules.specs.Reading.{crate as ofCrate};
+ghost use Rattle.rules.specs.Scan.{inlineScan};
+ghost use Rattle.trace.specs.Answer.{inlineTraced, inlineBuffer};
+ghost use Rattle.foringamo.specs.Result.{inlineResult, traceResult};
+use crate::traced::TraceResult;
+use crate::traced::trace_result;
+use html::scan::inline_scan;
+use html::tokenizer::Inline;
+use trace::tracer::inline_trace;
+
+// What an inline scan gives.
+#[repr(C)]
+pub struct InlineResult {
+    // 0: not refused.
+    pub refusal: u8,
+    // 1: a piece was found.
+    pub found: u8,
+    pub carry: u8,
+    pub stop: usize,
+}
+
+// The piece that begins at an index.
+#[no_mangle]
+pub extern "C" fn foringamo_inline_scan(text: &[u8], index: usize, carry: u8) -> InlineResult
+    ensures { λ r. ⌜ r ≡ inlineResult (inlineScan ofCrate (now (text .entry)) index carry) ⌝ }
+{
+    match inline_scan(text, index, carry) {
+        Inline::Found { stop, carry: left } => InlineResult {
+            refusal: 0,
+            found: 1,
+            carry: left,
+            stop,
+        },
+        Inline::Missing { carry: left } => InlineResult {
+            refusal: 0,
+            found: 0,
+            carry: left,
+            stop: 0,
+        },
+        Inline::Refused { refusal, carry } => InlineResult {
+            refusal,
+            found: 0,
+            carry,
+            stop: 0,
+        },
+    }
+}
+
+// The trace of an inline scan.
+#[no_mangle]
+pub extern "C" fn foringamo_inline_trace(
+    text: &[u8],
+    index: usize,
+    carry: u8,
+    out: &mut [u8],
+) -> TraceResult
+    ensures { λ r. ⌜ r ≡ traceResult (inlineTraced (now (text .entry)) index carry (length (now (out .entry)))) ⌝ }
+    ensures { λ r. ⌜ now (out .exit) ≡ inlineBuffer (now (text .entry)) index carry (now (out .entry)) ⌝ }
+{
+    trace_result(inline_trace(text, index, carry, out))
+}

@@ -1,0 +1,70 @@
+/*
+ * Withholds from a bulletin, scans it for a block and an inline piece, and traces a scan.
+ *
+ *     rt staticlib foringamo
+ *     cc -Iinclude -o target/example examples/example.c target/staticlib/libforingamo.a && target/example
+ */
+#include <stdio.h>
+#include <string.h>
+
+#include "foringamo.h"
+
+int main(void) {
+    const char *source = "door <!-- x -->9\n<div>\nold\n\nok";
+    const uint8_t *bulletin = (const uint8_t *)source;
+    size_t length = strlen(source);
+    const uint8_t flags[5] = {0}; /* one for each line */
+    uint8_t out[100];
+
+    foringamo_shown shown = foringamo_withhold(bulletin, length, flags, sizeof flags, out, sizeof out);
+    if (shown.refusal != 0) {
+        printf("refused %d\n", shown.refusal);
+        return 1;
+    }
+    printf("%zu pieces withheld, %zu bytes shown:\n", shown.pieces, shown.length);
+    fwrite(out, 1, shown.length, stdout);
+    printf("\n");
+
+    /* The line `<div>` begins at 17. */
+    foringamo_block block = foringamo_block_scan(bulletin, length, flags, sizeof flags, 17);
+    if (block.refusal != 0) {
+        printf("refused %d\n", block.refusal);
+        return 1;
+    }
+    if (block.kind == 0) {
+        printf("no block at 17\n");
+    } else {
+        printf("a block of kind %d from 17 to %zu, %s\n", block.kind, block.stop, block.closed ? "closed" : "not closed");
+    }
+
+    /* The comment begins at 5 of the paragraph, whose text has 16 bytes. */
+    foringamo_inline piece = foringamo_inline_scan(bulletin, 16, 5, 0);
+    if (piece.refusal != 0) {
+        printf("refused %d\n", piece.refusal);
+        return 1;
+    }
+    if (piece.found == 0) {
+        printf("no piece at 5, carry %d\n", piece.carry);
+    } else {
+        printf("a piece from 5 to %zu, carry %d\n", piece.stop, piece.carry);
+    }
+
+    foringamo_trace trace = foringamo_inline_trace((const uint8_t *)"<b>", 3, 0, 0, out, sizeof out);
+    if (trace.refusal != 0) {
+        printf("refused %d\n", trace.refusal);
+        return 1;
+    }
+    printf("the trace of <b>, %zu bytes:\n", trace.length);
+    for (size_t number = 0;; number++) {
+        foringamo_record record = foringamo_read_trace(out, trace.length, number);
+        if (record.refusal != 0) {
+            break; /* 9: there are no more */
+        }
+        if (record.kind <= 12) {
+            printf("%d at line %zu, column %zu, index %zu, vs %d\n", record.kind, record.line, record.column, record.index, record.last);
+        } else {
+            printf("%d with stop %zu, %s %d\n", record.kind, record.index, record.kind == 13 ? "carry" : "block kind", record.last);
+        }
+    }
+    return 0;
+}

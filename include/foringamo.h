@@ -1,0 +1,100 @@
+/*
+ * Raw HTML in bulletins: what it is, and what is shown without it.
+ *
+ * A slice is a pointer and a length in bytes. With length 0 nothing is read or written behind the pointer; it may be any pointer but NULL. An output buffer
+ * shares no byte with another slice. Nothing is kept when a function returns, and none of them allocates.
+ *
+ * Every result comes back by value and begins with its refusal:
+ *
+ *     0  not refused
+ *     1  the bulletin or text has over 16,000 bytes
+ *     2  the count of flags is not the number of lines
+ *     3  a flag is above 3
+ *     4  the index: in a bulletin not a line's first byte, in an inline text above its length
+ *     5  the carry is above 5
+ *     6  the inline text has two line endings with only spaces, tabs or no bytes between
+ *     7  the output buffer is shorter than the output needs
+ *     8  reading a trace: a kind byte is 0 or above 14
+ *     9  reading a trace: a record is cut off, or there are not so many
+ *
+ * Of 1 to 7 the first that applies is given. On a refusal every other field is 0 but the carry, which is the one passed in, and no byte of the output buffer
+ * changes. On an answer its bytes past those written stay as they are.
+ *
+ * A bulletin has one line more than it has line endings (LF, CR LF, or CR), and a flag for each line: 1 lazy, 2 interrupt, 3 both, 0 neither. An index and a
+ * stop count bytes from 0; a stop is behind the last byte taken.
+ */
+#ifndef FORINGAMO_H
+#define FORINGAMO_H
+
+#include <stddef.h>
+#include <stdint.h>
+
+#ifdef __cplusplus
+extern "C" {
+#endif
+
+/* The block that a line opens. */
+typedef struct {
+    uint8_t refusal;
+    uint8_t kind;   /* 1 raw, 2 comment, 3 instruction, 4 declaration, 5 CDATA, 6 basic, 7 complete; 0: none, stop 0 */
+    uint8_t closed; /* 1: a closer was met, never for kinds 6 and 7; else 0 */
+    size_t stop;
+} foringamo_block;
+
+/* The inline piece that begins at an index. */
+typedef struct {
+    uint8_t refusal;
+    uint8_t found; /* 1: found; 0: none, stop 0 */
+    uint8_t carry; /* letters of `CDATA[` counted so far, 0 to 5 */
+    size_t stop;
+} foringamo_inline;
+
+/* A trace that was written. */
+typedef struct {
+    uint8_t refusal;
+    size_t length; /* bytes written */
+} foringamo_trace;
+
+/*
+ * A record of a trace. Kinds 1 to 12 are events, enter (odd) and exit (even) of HtmlFlow, HtmlFlowData, LineEnding, HtmlText, HtmlTextData and SpaceOrTab;
+ * 13 is the last record of an inline trace, 14 that of a block trace.
+ */
+typedef struct {
+    uint8_t refusal;
+    uint8_t kind;
+    uint8_t last;  /* 1 to 12: vs, the readings already made of a tab; 13: the carry; 14: the block kind, 0 for none */
+    size_t line;   /* from 1; 0 for 13 and 14 */
+    size_t column; /* from 1; 0 for 13 and 14 */
+    size_t index;  /* 1 to 12: the index; 13 and 14: the stop */
+} foringamo_record;
+
+/* What was shown. */
+typedef struct {
+    uint8_t refusal;
+    size_t length; /* bytes written */
+    size_t pieces; /* blocks and inline pieces withheld, together */
+} foringamo_shown;
+
+/* The block that the line at the index opens. Refusals 1, 2, 3, 4. */
+foringamo_block foringamo_block_scan(const uint8_t *bulletin, size_t bulletin_len, const uint8_t *flags, size_t flags_len, size_t index);
+
+/* The inline piece at the index of a paragraph's text; none where the byte there is not `<`. Refusals 1, 4, 5, 6. */
+foringamo_inline foringamo_inline_scan(const uint8_t *text, size_t text_len, size_t index, uint8_t carry);
+
+/* Writes the trace of a block scan. Refusals 1, 2, 3, 4, 7. */
+foringamo_trace foringamo_block_trace(const uint8_t *bulletin, size_t bulletin_len, const uint8_t *flags, size_t flags_len, size_t index, uint8_t *out, size_t out_len);
+
+/* Writes the trace of an inline scan. Refusals 1, 4, 5, 6, 7. */
+foringamo_trace foringamo_inline_trace(const uint8_t *text, size_t text_len, size_t index, uint8_t carry, uint8_t *out, size_t out_len);
+
+/* The record of a number, counted from 0. The first bad record on the way decides; later ones are not looked at. Refusals 8, 9. */
+foringamo_record foringamo_read_trace(const uint8_t *trace, size_t trace_len, size_t number);
+
+/* Writes the bulletin without its raw HTML. Room for bulletin_len bytes always suffices. Refusals 1, 2, 3, 7. */
+foringamo_shown foringamo_withhold(const uint8_t *bulletin, size_t bulletin_len, const uint8_t *flags, size_t flags_len, uint8_t *out, size_t out_len);
+
+#ifdef __cplusplus
+}
+#endif
+
+#endif

@@ -1,0 +1,296 @@
+/*
+ * The C interface: the layout of its structs, every refusal, and what becomes of the output buffer. tests/interface.sh builds and runs it.
+ * A line for each check that fails; the last line is 'N passed, M failed'.
+ */
+#include <stdio.h>
+#include <string.h>
+
+#include "foringamo.h"
+
+static int passed = 0;
+static int failed = 0;
+
+static void check(int holds, int line, const char *what) {
+    if (holds) {
+        passed++;
+    } else {
+        failed++;
+        printf("tests/interface.c:%d: %s\n", line, what);
+    }
+}
+
+#define CHECK(what) check((what), __LINE__, #what)
+
+/* A text, and its length. */
+#define TEXT(s) (const uint8_t *)(s), sizeof(s) - 1
+
+/* A pointer that nothing may be read or written behind. */
+#define NOWHERE ((uint8_t *)1)
+
+/* The output buffer, and what it holds before. */
+#define ROOM 64
+#define FILL 0xee
+static uint8_t out[ROOM];
+
+static void fill(void) {
+    memset(out, FILL, ROOM);
+}
+
+/* Whether the buffer is as before, from an index on. */
+static int kept_from(size_t from) {
+    for (size_t i = from; i < ROOM; i++) {
+        if (out[i] != FILL) {
+            return 0;
+        }
+    }
+    return 1;
+}
+
+/* The buffer has these bytes, and behind them is as before. */
+static int has(const uint8_t *bytes, size_t length) {
+    return memcmp(out, bytes, length) == 0 && kept_from(length);
+}
+
+static int is_block(foringamo_block r, int refusal, int kind, int closed, size_t stop) {
+    return r.refusal == refusal && r.kind == kind && r.closed == closed && r.stop == stop;
+}
+
+static int is_inline(foringamo_inline r, int refusal, int found, int carry, size_t stop) {
+    return r.refusal == refusal && r.found == found && r.carry == carry && r.stop == stop;
+}
+
+static int is_trace(foringamo_trace r, int refusal, size_t length) {
+    return r.refusal == refusal && r.length == length;
+}
+
+static int is_record(foringamo_record r, int refusal, int kind, int last, size_t line, size_t column, size_t index) {
+    return r.refusal == refusal && r.kind == kind && r.last == last && r.line == line && r.column == column && r.index == index;
+}
+
+static int is_shown(foringamo_shown r, int refusal, size_t length, size_t pieces) {
+    return r.refusal == refusal && r.length == length && r.pieces == pieces;
+}
+
+/* Each checks that a call which writes is refused, and changes no byte of the buffer. */
+#define REFUSES_TRACE(refusal, call) (fill(), CHECK(is_trace(call, refusal, 0) && kept_from(0)))
+#define REFUSES_SHOWN(refusal, call) (fill(), CHECK(is_shown(call, refusal, 0, 0) && kept_from(0)))
+
+/* One byte above the limit. */
+static uint8_t big[16001];
+static const uint8_t zeros[16001];
+static const uint8_t wrong[] = {4, 4};
+
+static void layout(void) {
+    CHECK(sizeof(foringamo_block) == 16);
+    CHECK(offsetof(foringamo_block, refusal) == 0);
+    CHECK(offsetof(foringamo_block, kind) == 1);
+    CHECK(offsetof(foringamo_block, closed) == 2);
+    CHECK(offsetof(foringamo_block, stop) == 8);
+    CHECK(sizeof(foringamo_inline) == 16);
+    CHECK(offsetof(foringamo_inline, refusal) == 0);
+    CHECK(offsetof(foringamo_inline, found) == 1);
+    CHECK(offsetof(foringamo_inline, carry) == 2);
+    CHECK(offsetof(foringamo_inline, stop) == 8);
+    CHECK(sizeof(foringamo_trace) == 16);
+    CHECK(offsetof(foringamo_trace, refusal) == 0);
+    CHECK(offsetof(foringamo_trace, length) == 8);
+    CHECK(sizeof(foringamo_record) == 32);
+    CHECK(offsetof(foringamo_record, refusal) == 0);
+    CHECK(offsetof(foringamo_record, kind) == 1);
+    CHECK(offsetof(foringamo_record, last) == 2);
+    CHECK(offsetof(foringamo_record, line) == 8);
+    CHECK(offsetof(foringamo_record, column) == 16);
+    CHECK(offsetof(foringamo_record, index) == 24);
+    CHECK(sizeof(foringamo_shown) == 24);
+    CHECK(offsetof(foringamo_shown, refusal) == 0);
+    CHECK(offsetof(foringamo_shown, length) == 8);
+    CHECK(offsetof(foringamo_shown, pieces) == 16);
+}
+
+static void block_scan(void) {
+    CHECK(is_block(foringamo_block_scan(big, 16001, zeros, 1, 0), 1, 0, 0, 0));
+    CHECK(is_block(foringamo_block_scan(big, 16001, wrong, 2, 7), 1, 0, 0, 0));
+    CHECK(is_block(foringamo_block_scan(big, 16000, zeros, 1, 0), 0, 0, 0, 0));
+    CHECK(is_block(foringamo_block_scan(TEXT("<div>"), NOWHERE, 0, 0), 2, 0, 0, 0));
+    CHECK(is_block(foringamo_block_scan(TEXT("<div>"), zeros, 2, 0), 2, 0, 0, 0));
+    CHECK(is_block(foringamo_block_scan(TEXT("<div>"), wrong, 2, 1), 2, 0, 0, 0));
+    CHECK(is_block(foringamo_block_scan(TEXT("<div>"), wrong, 1, 0), 3, 0, 0, 0));
+    CHECK(is_block(foringamo_block_scan(TEXT("<div>"), wrong, 1, 1), 3, 0, 0, 0));
+    CHECK(is_block(foringamo_block_scan(TEXT("<div>"), zeros, 1, 1), 4, 0, 0, 0));
+    CHECK(is_block(foringamo_block_scan(TEXT("<div>"), zeros, 1, 6), 4, 0, 0, 0));
+    CHECK(is_block(foringamo_block_scan(TEXT("<div>"), zeros, 1, SIZE_MAX), 4, 0, 0, 0));
+    CHECK(is_block(foringamo_block_scan(TEXT("a\r\n<div>"), zeros, 2, 2), 4, 0, 0, 0));
+
+    CHECK(is_block(foringamo_block_scan(TEXT("<pre>\n</pre>"), zeros, 2, 0), 0, 1, 1, 12));
+    CHECK(is_block(foringamo_block_scan(TEXT("<!-- x"), zeros, 1, 0), 0, 2, 0, 6));
+    CHECK(is_block(foringamo_block_scan(TEXT("<!-- x -->\n"), zeros, 2, 0), 0, 2, 1, 10));
+    CHECK(is_block(foringamo_block_scan(TEXT("<?x?>"), zeros, 1, 0), 0, 3, 1, 5));
+    CHECK(is_block(foringamo_block_scan(TEXT("<!X>"), zeros, 1, 0), 0, 4, 1, 4));
+    CHECK(is_block(foringamo_block_scan(TEXT("<![CDATA[]]>"), zeros, 1, 0), 0, 5, 1, 12));
+    CHECK(is_block(foringamo_block_scan(TEXT("<div>\nx\n\n"), zeros, 4, 0), 0, 6, 0, 7));
+    CHECK(is_block(foringamo_block_scan(TEXT("x\n<a>"), zeros, 2, 2), 0, 7, 0, 5));
+    CHECK(is_block(foringamo_block_scan(TEXT("x"), zeros, 1, 0), 0, 0, 0, 0));
+    CHECK(is_block(foringamo_block_scan(NOWHERE, 0, zeros, 1, 0), 0, 0, 0, 0));
+}
+
+static void inline_scan(void) {
+    CHECK(is_inline(foringamo_inline_scan(big, 16001, 0, 3), 1, 0, 3, 0));
+    CHECK(is_inline(foringamo_inline_scan(big, 16001, 16002, 9), 1, 0, 9, 0));
+    CHECK(is_inline(foringamo_inline_scan(TEXT("<b>"), 4, 3), 4, 0, 3, 0));
+    CHECK(is_inline(foringamo_inline_scan(TEXT("<b>"), SIZE_MAX, 9), 4, 0, 9, 0));
+    CHECK(is_inline(foringamo_inline_scan(TEXT("<b>"), 0, 6), 5, 0, 6, 0));
+    CHECK(is_inline(foringamo_inline_scan(TEXT("a\n\nb"), 0, 255), 5, 0, 255, 0));
+    CHECK(is_inline(foringamo_inline_scan(TEXT("a\n \t\nb"), 0, 2), 6, 0, 2, 0));
+    for (int carry = 0; carry <= 5; carry++) {
+        CHECK(is_inline(foringamo_inline_scan(TEXT("<b>\r\r"), 0, (uint8_t)carry), 6, 0, carry, 0));
+        CHECK(is_inline(foringamo_inline_scan(TEXT("<b>"), 0, (uint8_t)carry), 0, 1, carry, 3));
+        CHECK(is_inline(foringamo_inline_scan(TEXT("<b>"), 3, (uint8_t)carry), 0, 0, carry, 0));
+    }
+
+    CHECK(is_inline(foringamo_inline_scan(TEXT("<![CDx"), 0, 0), 0, 0, 2, 0));
+    CHECK(is_inline(foringamo_inline_scan(TEXT("<![ATA[q]]>"), 0, 2), 0, 1, 0, 11));
+    CHECK(is_inline(foringamo_inline_scan(TEXT("<![CDATA[q]]>"), 0, 2), 0, 0, 2, 0));
+    CHECK(is_inline(foringamo_inline_scan(NOWHERE, 0, 0, 1), 0, 0, 1, 0));
+}
+
+static void block_trace(void) {
+    REFUSES_TRACE(1, foringamo_block_trace(big, 16001, zeros, 1, 0, out, ROOM));
+    REFUSES_TRACE(2, foringamo_block_trace(TEXT("<div>"), zeros, 2, 0, out, ROOM));
+    REFUSES_TRACE(3, foringamo_block_trace(TEXT("<div>"), wrong, 1, 0, out, ROOM));
+    REFUSES_TRACE(4, foringamo_block_trace(TEXT("<div>"), zeros, 1, 1, out, ROOM));
+    REFUSES_TRACE(4, foringamo_block_trace(TEXT("<div>"), zeros, 1, 1, out, 0));
+    REFUSES_TRACE(7, foringamo_block_trace(TEXT("<div>"), zeros, 1, 0, NOWHERE, 0));
+
+    const uint8_t div[] = {1, 1, 0, 1, 0, 0, 0, 0, 3, 1, 0, 1, 0, 0, 0, 0, 4, 1, 0, 6, 0, 5, 0, 0, 2, 1, 0, 6, 0, 5, 0, 0, 14, 5, 0, 6};
+    for (size_t room = 0; room <= ROOM; room++) {
+        fill();
+        foringamo_trace r = foringamo_block_trace(TEXT("<div>"), zeros, 1, 0, out, room);
+        if (room < sizeof div) {
+            CHECK(is_trace(r, 7, 0) && kept_from(0));
+        } else {
+            CHECK(is_trace(r, 0, sizeof div) && has(div, sizeof div));
+        }
+    }
+
+    const uint8_t none[] = {14, 2, 0, 0};
+    fill();
+    CHECK(is_trace(foringamo_block_trace(TEXT("<\nx"), zeros, 2, 2, out, ROOM), 0, 4) && has(none, 4));
+    REFUSES_TRACE(7, foringamo_block_trace(TEXT("<\nx"), zeros, 2, 2, out, 3));
+}
+
+/* 01, Traces: that of `<b>`. */
+static const uint8_t b[] = {
+    0x07, 0x01, 0x00, 0x01, 0x00, 0x00, 0x00, 0x00, 0x09, 0x01, 0x00, 0x01, 0x00, 0x00, 0x00, 0x00, 0x0a, 0x01,
+    0x00, 0x04, 0x00, 0x03, 0x00, 0x00, 0x08, 0x01, 0x00, 0x04, 0x00, 0x03, 0x00, 0x00, 0x0d, 0x03, 0x00, 0x00,
+};
+
+static void inline_trace(void) {
+    REFUSES_TRACE(1, foringamo_inline_trace(big, 16001, 0, 0, out, ROOM));
+    REFUSES_TRACE(4, foringamo_inline_trace(TEXT("<b>"), 4, 0, out, ROOM));
+    REFUSES_TRACE(5, foringamo_inline_trace(TEXT("<b>"), 0, 6, out, ROOM));
+    REFUSES_TRACE(6, foringamo_inline_trace(TEXT("<b>\n\nx"), 0, 0, out, ROOM));
+    REFUSES_TRACE(6, foringamo_inline_trace(TEXT("<b>\n\nx"), 0, 0, out, 0));
+    REFUSES_TRACE(7, foringamo_inline_trace(TEXT("<b>"), 0, 0, NOWHERE, 0));
+
+    for (size_t room = 0; room <= ROOM; room++) {
+        fill();
+        foringamo_trace r = foringamo_inline_trace(TEXT("<b>"), 0, 0, out, room);
+        if (room < sizeof b) {
+            CHECK(is_trace(r, 7, 0) && kept_from(0));
+        } else {
+            CHECK(is_trace(r, 0, sizeof b) && has(b, sizeof b));
+        }
+    }
+
+    const uint8_t none[] = {13, 1, 0, 5};
+    fill();
+    CHECK(is_trace(foringamo_inline_trace(TEXT("<b>"), 1, 5, out, ROOM), 0, 4) && has(none, 4));
+    REFUSES_TRACE(7, foringamo_inline_trace(TEXT("<b>"), 1, 5, out, 3));
+}
+
+static void read_trace(void) {
+    CHECK(is_record(foringamo_read_trace(b, sizeof b, 0), 0, 7, 0, 1, 1, 0));
+    CHECK(is_record(foringamo_read_trace(b, sizeof b, 1), 0, 9, 0, 1, 1, 0));
+    CHECK(is_record(foringamo_read_trace(b, sizeof b, 2), 0, 10, 0, 1, 4, 3));
+    CHECK(is_record(foringamo_read_trace(b, sizeof b, 3), 0, 8, 0, 1, 4, 3));
+    CHECK(is_record(foringamo_read_trace(b, sizeof b, 4), 0, 13, 0, 0, 0, 3));
+    CHECK(is_record(foringamo_read_trace(b, sizeof b, 5), 9, 0, 0, 0, 0, 0));
+    CHECK(is_record(foringamo_read_trace(b, sizeof b, SIZE_MAX), 9, 0, 0, 0, 0, 0));
+
+    const uint8_t event[] = {12, 2, 1, 4, 3, 6, 5, 7};
+    CHECK(is_record(foringamo_read_trace(event, sizeof event, 0), 0, 12, 7, 258, 772, 1286));
+    const uint8_t last[] = {14, 2, 1, 6};
+    CHECK(is_record(foringamo_read_trace(last, sizeof last, 0), 0, 14, 6, 0, 0, 258));
+    CHECK(is_record(foringamo_read_trace(NOWHERE, 0, 0), 9, 0, 0, 0, 0, 0));
+    for (size_t length = 0; length < sizeof event; length++) {
+        CHECK(is_record(foringamo_read_trace(event, length, 0), 9, 0, 0, 0, 0, 0));
+    }
+    for (size_t length = 0; length < sizeof last; length++) {
+        CHECK(is_record(foringamo_read_trace(last, length, 0), 9, 0, 0, 0, 0, 0));
+    }
+
+    /* Every kind byte, with a whole record behind it. */
+    for (int kind = 0; kind < 256; kind++) {
+        uint8_t bytes[8] = {0, 1, 0, 2, 0, 3, 0, 4};
+        bytes[0] = (uint8_t)kind;
+        foringamo_record r = foringamo_read_trace(bytes, sizeof bytes, 0);
+        if (kind == 0 || kind > 14) {
+            CHECK(is_record(r, 8, 0, 0, 0, 0, 0));
+        } else if (kind <= 12) {
+            CHECK(is_record(r, 0, kind, 4, 1, 2, 3));
+        } else {
+            CHECK(is_record(r, 0, kind, 2, 0, 0, 1));
+        }
+    }
+
+    /* The first bad record on the way decides; later ones are not looked at. */
+    const uint8_t bad[] = {13, 0, 0, 0, 0, 13, 0};
+    CHECK(is_record(foringamo_read_trace(bad, sizeof bad, 0), 0, 13, 0, 0, 0, 0));
+    CHECK(is_record(foringamo_read_trace(bad, sizeof bad, 1), 8, 0, 0, 0, 0, 0));
+    CHECK(is_record(foringamo_read_trace(bad, sizeof bad, 2), 8, 0, 0, 0, 0, 0));
+    const uint8_t cut[] = {13, 0, 0, 0, 13, 0};
+    CHECK(is_record(foringamo_read_trace(cut, sizeof cut, 0), 0, 13, 0, 0, 0, 0));
+    CHECK(is_record(foringamo_read_trace(cut, sizeof cut, 1), 9, 0, 0, 0, 0, 0));
+    CHECK(is_record(foringamo_read_trace(cut, sizeof cut, 2), 9, 0, 0, 0, 0, 0));
+}
+
+static void withhold(void) {
+    REFUSES_SHOWN(1, foringamo_withhold(big, 16001, zeros, 1, out, ROOM));
+    REFUSES_SHOWN(1, foringamo_withhold(big, 16001, wrong, 2, out, 0));
+    REFUSES_SHOWN(2, foringamo_withhold(TEXT("a\nb"), zeros, 3, out, ROOM));
+    REFUSES_SHOWN(2, foringamo_withhold(TEXT("a"), wrong, 2, out, 0));
+    REFUSES_SHOWN(2, foringamo_withhold(NOWHERE, 0, NOWHERE, 0, out, ROOM));
+    REFUSES_SHOWN(3, foringamo_withhold(TEXT("a\nb"), wrong, 2, out, ROOM));
+    REFUSES_SHOWN(3, foringamo_withhold(TEXT("a\nb"), wrong, 2, out, 0));
+    REFUSES_SHOWN(7, foringamo_withhold(TEXT("a"), zeros, 1, NOWHERE, 0));
+    REFUSES_SHOWN(7, foringamo_withhold(big, 16000, zeros, 1, out, ROOM));
+
+    /* 01, The added screen. */
+    const char shown[] = "door 9\n\n\nok";
+    for (size_t room = 0; room <= ROOM; room++) {
+        fill();
+        foringamo_shown r = foringamo_withhold(TEXT("door <!-- x -->9\n<div>\nold\n\nok"), zeros, 5, out, room);
+        if (room < sizeof shown - 1) {
+            CHECK(is_shown(r, 7, 0, 0) && kept_from(0));
+        } else {
+            CHECK(is_shown(r, 0, sizeof shown - 1, 2) && has(TEXT(shown)));
+        }
+    }
+
+    fill();
+    CHECK(is_shown(foringamo_withhold(NOWHERE, 0, zeros, 1, out, ROOM), 0, 0, 0) && kept_from(0));
+    CHECK(is_shown(foringamo_withhold(TEXT("<!-- x -->"), zeros, 1, NOWHERE, 0), 0, 0, 1));
+}
+
+int main(void) {
+    memset(big, 'a', sizeof big);
+    layout();
+    block_scan();
+    inline_scan();
+    block_trace();
+    inline_trace();
+    read_trace();
+    withhold();
+    printf("%d passed, %d failed\n", passed, failed);
+    return failed != 0;
+}
