@@ -1,22 +1,20 @@
 -- The lines of a block one by one: what the rules give, by the next line.
 use mathlib.Core.Path.{_≡_, refl, sym, _∙_, ap}
-use mathlib.Core.Bool.{Bool, true, false, _&&_, _||_, not}
+use mathlib.Core.Bool.{Bool, true, false, _&&_}
 use mathlib.Core.List.{List, [], _∷_}
-use Prim.Native.Nat.{ℕ, zero, suc, _+_, _-_, _<_, _≤_}
+use Prim.Native.Nat.{ℕ, _+_, _-_, _<_, _≤_}
 use native.Mathlib.Omega.{arith}
 use lib.Dec.{eqb}
 use lib.ListN.{length, getD, take, drop}
-use lib.Seq.{drop-drop}
 use Rattle.lexical.specs.Line.{lineEnding, lineLength}
 use Rattle.lexical.specs.Name.{all}
 use Rattle.lexical.proofs.Suffix.{suffix-in, suffix-out}
 use Rattle.lexical.proofs.Ending.{ending-out}
-use Rattle.rules.specs.Search.{choose}
-use Rattle.rules.specs.Lines.{Line, line, flagged, cutLines, linesOf}
-use Rattle.rules.specs.Block.{Extent, extent, oneMore, endsBefore, closes, goesOn, kindOf, extentOf, stopAfter}
+use Rattle.rules.specs.Lines.{Line, line, flagged, linesOf}
+use Rattle.rules.specs.Block.{endsBefore, closes, goesOn, kindOf, extentOf, stopAfter}
 use Rattle.rules.specs.Scan.{BlockAnswer, foundBlock, noBlock, blockAnswer, blockOf}
 use Rattle.rules.specs.declared.Rules.{Rules}
-use Rattle.rules.proofs.Cut.{behind, behind-none, behind-one, cut-first, content-length, lead-length, to-within, lineFrom, lineTo}
+use Rattle.rules.proofs.Cut.{behind, behind-none, content-length, lead-length, to-within, lineFrom, lineTo}
 use Rattle.rules.proofs.LineLaws.{contentFrom, stopFrom, stop-is, first-line, next-lines}
 use Rattle.flow.specs.Answer.{kindNumber}
 use Rattle.flow.specs.declared.html_flow.Kind.{Kind}

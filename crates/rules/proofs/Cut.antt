@@ -1,17 +1,17 @@
 -- Laws of cutting a text into lines: its first line, and the lines behind it. At each byte, either the line ends there or the byte belongs to it.
-use mathlib.Core.Path.{_≡_, refl, sym, _∙_, ap}
-use mathlib.Core.Bool.{Bool, true, false, _||_, not}
+use mathlib.Core.Path.{_≡_, refl, _∙_, ap}
+use mathlib.Core.Bool.{Bool, true, false, not}
 use mathlib.Core.List.{List, [], _∷_}
-use Prim.Native.Nat.{ℕ, zero, suc, _+_, _-_, _<_, _≤_}
+use Prim.Native.Nat.{ℕ, suc, _+_, _≤_}
 use native.Mathlib.Omega.{arith}
 use lib.Dec.{eqb}
 use lib.ListN.{length, take, drop, length-drop}
 use lib.Seq.{length-take-le, drop-drop}
 use borrow.Author.Tests.{eqb-true, ne-eqb}
-use Rattle.lexical.specs.Text.{byte, pick, first, run}
+use Rattle.lexical.specs.Text.{byte, run}
 use Rattle.lexical.specs.Byte.{isSpaceOrTab, isLineEndingByte}
 use Rattle.lexical.specs.Line.{lineEnding, lineLength}
-use Rattle.lexical.proofs.Cases.{split, or-left, or-right}
+use Rattle.lexical.proofs.Cases.{split}
 use Rattle.lexical.proofs.Run.{run-length}
 use Rattle.lexical.proofs.Ending.{ending-length, ending-within}
 use Rattle.rules.specs.Search.{choose}

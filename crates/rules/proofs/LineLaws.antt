@@ -10,7 +10,6 @@ use lib.Seq.{drop-drop}
 use Rattle.lexical.specs.Text.{byte}
 use Rattle.lexical.specs.Line.{lineEnding, lineLength}
 use Rattle.lexical.proofs.Cases.{split}
-use Rattle.rules.specs.Search.{choose}
 use Rattle.rules.specs.Lines.{Line, line, push, cutLines, flagged, linesOf}
 use Rattle.rules.specs.Block.{stopAfter}
 use Rattle.rules.proofs.Cut.{behind, behind-one, cut-first, lineFrom, lineTo}

@@ -2,7 +2,7 @@
 -- or behind the body and the same. No class of bytes that a grammar passes holds `<`, so both are passed alike up to it; what is behind it is met only inside
 -- quotation marks or on the way to a closer, and there the two are alike by assumption.
 use mathlib.Core.Path.{_≡_, refl, ap}
-use mathlib.Core.Bool.{Bool, true, false, _&&_, _||_, not}
+use mathlib.Core.Bool.{Bool, true, false, _&&_, not}
 use mathlib.Core.List.{List, [], _∷_, _++_}
 use Prim.Native.Nat.{ℕ, suc, _≤_}
 use native.Mathlib.Omega.{arith}

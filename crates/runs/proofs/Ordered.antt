@@ -11,14 +11,14 @@ use lib.Dec.{eqb, leb}
 use lib.ListN.{length, take, drop, length-append}
 use lib.Seq.{drop-drop}
 use borrow.Author.Tests.{le-leb, lt-leb, lt-ltb, le-ltb}
-use Rattle.lexical.specs.Text.{byte, bytes, run}
+use Rattle.lexical.specs.Text.{run}
 use Rattle.lexical.specs.Name.{isRawName}
 use Rattle.lexical.specs.Line.{isBlank}
 use Rattle.lexical.proofs.Cases.{clash, and-no}
 use Rattle.rules.specs.Search.{choose}
 use Rattle.rules.specs.Inline.{Read, takes, lacks, readInline}
 use Rattle.rules.specs.Tag.{openTag, closingTag}
-use Rattle.rules.specs.Lines.{Line, line, push, cutLines, linesOf}
+use Rattle.rules.specs.Lines.{Line, line, linesOf}
 use Rattle.rules.specs.Block.{kindAt, kindOf, startsRaw, startsBasic, startsComplete, extentOf, stopAfter}
 use Rattle.rules.specs.Withhold.{Mark, blockFirst, marks, goesOn, Piece, piece, inline, byRead, inlinePieces, linePieces, pieces, isWithheld, outside}
 use Rattle.rules.specs.declared.Rules.{Rules}

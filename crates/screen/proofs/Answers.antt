@@ -1,14 +1,14 @@
 -- Laws of the answer: a refusal of what is read, no room, or what is shown.
 use mathlib.Core.Path.{_≡_, refl, sym, _∙_, ap}
-use mathlib.Core.Bool.{Bool, true, false}
+use mathlib.Core.Bool.{true, false}
 use mathlib.Core.List.{List}
-use Prim.Native.Nat.{ℕ, _≤_}
+use Prim.Native.Nat.{ℕ}
 use lib.Dec.{eqb, leb}
 use lib.ListN.{length}
 use borrow.Author.Tests.{ne-eqb, leb-true, leb-false}
 use Rattle.lexical.proofs.Cases.{clash}
 use Rattle.rules.specs.Refusal.{bulletinRefusal, outputRefusal}
-use Rattle.rules.specs.Withhold.{shown, count, shows, refusedShown, withhold, withholdRefusal, written}
+use Rattle.rules.specs.Withhold.{shown, count, withhold, withholdRefusal, written}
 use Rattle.rules.specs.declared.Rules.{Rules}
 use Rattle.rules.proofs.Refusals.{output-first, output-short, output-fits}
 use Rattle.screen.specs.Answer.{shownOf}

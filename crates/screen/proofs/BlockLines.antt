@@ -8,7 +8,7 @@ use native.Mathlib.Omega.{arith}
 use lib.Dec.{eqb, ltb}
 use lib.ListN.{length, drop}
 use borrow.Author.Tests.{lt-ltb, le-ltb, ltb-true, ltb-false}
-use Rattle.lexical.specs.Line.{lineEnding, lineLength}
+use Rattle.lexical.specs.Line.{lineLength}
 use Rattle.lexical.proofs.Cases.{split, clash}
 use Rattle.lexical.proofs.Suffix.{suffix-next}
 use Rattle.lexical.proofs.Ending.{ending-out}
@@ -22,7 +22,7 @@ use Rattle.rules.proofs.Cut.{content-length, lineFrom, lineTo, to-within}
 use Rattle.rules.proofs.LineLaws.{contentFrom, stopFrom, stop-from, stop-is}
 use Rattle.runs.proofs.Covered.{extent-some}
 use Rattle.screen.specs.Remaining.{lineAt, fromLine, BlockEnd}
-use Rattle.screen.proofs.FromLine.{ending-there, read-to, line-ended, line-within, linesBehind, ledLine, first-numbered, led-to, next-numbered, no-lines, piecesBehind, no-more, behind-line}
+use Rattle.screen.proofs.FromLine.{ending-there, read-to, line-ended, line-within, linesBehind, first-numbered, led-to, next-numbered, no-lines, piecesBehind, no-more, behind-line}
 
 -- ---- what an answer says
 abbrev pieceOf : ℕ → BlockAnswer → Piece

@@ -2,20 +2,20 @@
 -- show the same.
 use mathlib.Core.Path.{_≡_, refl, sym, _∙_, ap}
 use mathlib.Core.Bool.{Bool, true, false}
-use mathlib.Core.List.{List, _++_}
-use Prim.Native.Nat.{ℕ, _-_}
+use mathlib.Core.List.{List}
+use Prim.Native.Nat.{ℕ}
 use lib.Dec.{eqb}
 use lib.ListN.{length, take, drop}
 use lib.Seq.{take-append-seam}
-use borrow.Author.Tests.{eqb-true, ne-eqb}
+use borrow.Author.Tests.{eqb-true}
 use Rattle.lexical.proofs.Cases.{split, clash}
-use Rattle.rules.specs.Refusal.{bulletinRefusal, outputRefusal}
+use Rattle.rules.specs.Refusal.{bulletinRefusal}
 use Rattle.rules.specs.Withhold.{shown, count, Shown, shows, refusedShown, withhold, withholdRefusal, written}
-use Rattle.rules.specs.Private.{Swap, SameRuns}
+use Rattle.rules.specs.Private.{Swap}
 use Rattle.rules.specs.declared.Rules.{Rules}
 use Rattle.rules.proofs.Refusals.{output-first}
 use Rattle.runs.proofs.TwoRuns.{two-runs}
-use Rattle.screen.specs.Both.{SameShown, SameAnswers, Alike}
+use Rattle.screen.specs.Both.{SameAnswers, Alike}
 
 abbrev lengthOf : Shown → ℕ
 lengthOf (shows n c) = n

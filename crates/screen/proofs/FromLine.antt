@@ -1,14 +1,14 @@
 -- From a line on. A line leads to the line behind it: the pieces of the lines behind a line's content are those from the next line on, since the ending that
 -- leads to a line counts only in a paragraph, and there it has no `<`.
 use mathlib.Core.Path.{_≡_, refl, sym, _∙_, ap}
-use mathlib.Core.Bool.{Bool, true, false, _||_, not}
+use mathlib.Core.Bool.{Bool, true, false, not}
 use mathlib.Core.List.{List, [], _∷_, _++_}
 use Prim.Native.Nat.{ℕ, zero, suc, _+_, _-_, _<_, _≤_}
 use native.Mathlib.Omega.{arith}
 use lib.Dec.{eqb, ltb}
-use lib.ListN.{length, getD, take, drop, length-drop}
+use lib.ListN.{length, getD, drop, length-drop}
 use lib.Seq.{drop-drop}
-use borrow.Author.Tests.{eqb-true, ne-eqb, ltb-true, ltb-false}
+use borrow.Author.Tests.{ltb-true, ltb-false}
 use Rattle.lexical.specs.Text.{byte, first, run}
 use Rattle.lexical.specs.Byte.{isLineEndingByte}
 use Rattle.lexical.specs.Line.{lineEnding, lineLength, isBlank}
@@ -16,10 +16,9 @@ use Rattle.lexical.proofs.Cases.{split}
 use Rattle.lexical.proofs.Suffix.{suffix-in, suffix-out, suffix-next}
 use Rattle.lexical.proofs.Ending.{ending-out}
 use Rattle.lexical.proofs.Run.{run-length}
-use Rattle.rules.specs.Search.{choose}
 use Rattle.rules.specs.Lines.{Line, line, cutLines, flagged, linesOf}
 use Rattle.rules.specs.Block.{kindOf, extentOf, stopAfter}
-use Rattle.rules.specs.Withhold.{Mark, blockFirst, blockMore, blank, paragraphFirst, paragraphMore, Piece, piece, block, marks, goesOn, inlinePieces, linePieces}
+use Rattle.rules.specs.Withhold.{Piece, piece, block, marks, goesOn, inlinePieces, linePieces}
 use Rattle.rules.specs.declared.Rules.{Rules}
 use Rattle.rules.proofs.Cut.{behind, behind-none, content-length, lead-length, lineFrom, lineTo}
 use Rattle.rules.proofs.LineLaws.{contentFrom, flag-first, first-line, leadAt, next-lines}

@@ -1,21 +1,20 @@
 -- The pieces of a paragraph from `<` to `<`. Bytes before the next `<` have none; what is found there is the next piece, and the pieces behind it are those from its
 -- stop on; where nothing is found, they are those from the next byte on.
 use mathlib.Core.Path.{_≡_, refl, sym, _∙_, ap, subst}
-use mathlib.Core.Bool.{Bool, true, false, not}
+use mathlib.Core.Bool.{Bool, true, false}
 use mathlib.Core.List.{List, [], _∷_, _++_}
 use Prim.Native.Nat.{ℕ, zero, suc, _+_, _-_, _<_, _≤_}
 use native.Mathlib.Omega.{arith}
-use lib.Dec.{eqb}
 use lib.ListN.{length, getD, take, drop, length-drop, take-append-drop}
 use lib.Seq.{drop-drop, length-take-le}
-use Rattle.lexical.specs.Text.{byte, run}
+use Rattle.lexical.specs.Text.{run}
 use Rattle.lexical.specs.Name.{all}
 use Rattle.lexical.proofs.Cases.{split, clash}
 use Rattle.lexical.proofs.Suffix.{suffix-in, suffix-out, suffix-next}
 use Rattle.lexical.proofs.Run.{run-length}
 use Rattle.rules.specs.Inline.{Read, takes, lacks, readInline}
 use Rattle.rules.specs.Scan.{InlineAnswer, foundInline, noInline, refusedInline, inlineAnswer, inlineAt}
-use Rattle.rules.specs.Withhold.{Piece, piece, inline, byRead, inlinePieces}
+use Rattle.rules.specs.Withhold.{piece, inline, byRead, inlinePieces}
 use Rattle.rules.specs.declared.Rules.{Rules}
 use Rattle.runs.proofs.Less.{ReadMost, read-most}
 use Rattle.screen.specs.Closer.{Known, formOf, isAhead, without}

@@ -1,12 +1,12 @@
 -- Paragraphs line by line. A line without `<` has no pieces, and nor has the ending behind it: so the next line may as well begin a paragraph. A paragraph that
 -- is begun goes on over lines that are neither blank nor open a block, and its text is all from its first byte to the end of its last line's content.
 use mathlib.Core.Path.{_≡_, refl, sym, _∙_, ap, subst}
-use mathlib.Core.Bool.{Bool, true, false, _&&_, _||_, not}
+use mathlib.Core.Bool.{Bool, true, false, _||_, not}
 use mathlib.Core.List.{List, [], _∷_, _++_, append-assoc, append-nil}
 use Prim.Native.Nat.{ℕ, zero, suc, _+_, _-_, _<_, _≤_}
 use native.Mathlib.Omega.{arith}
 use lib.Dec.{eqb, ltb}
-use lib.ListN.{length, getD, take, drop, length-append, length-drop}
+use lib.ListN.{length, getD, take, drop}
 use lib.Seq.{drop-drop, take-add, take-nil}
 use borrow.Author.Tests.{eqb-true, ltb-true, ltb-false, not-true, not-false}
 use Rattle.lexical.specs.Text.{byte, first, run}
@@ -14,15 +14,13 @@ use Rattle.lexical.specs.Byte.{isLineEndingByte, isSpaceOrTab}
 use Rattle.lexical.specs.Name.{all}
 use Rattle.lexical.specs.Line.{lineEnding, lineLength, isBlank}
 use Rattle.lexical.proofs.Cases.{split, clash, and-left, and-right, or-left, or-right}
-use Rattle.lexical.proofs.Suffix.{suffix-in, suffix-out, suffix-next}
+use Rattle.lexical.proofs.Suffix.{suffix-next}
 use Rattle.lexical.proofs.Ending.{ending-out}
-use Rattle.rules.specs.Search.{choose}
-use Rattle.rules.specs.Inline.{Read, takes, lacks, readInline}
-use Rattle.rules.specs.Lines.{Line, line, linesOf}
-use Rattle.rules.specs.Block.{kindOf, extentOf, stopAfter}
-use Rattle.rules.specs.Withhold.{Mark, blockFirst, blockMore, blank, paragraphFirst, paragraphMore, Piece, piece, inline, block, byRead, marks, goesOn, inlinePieces, linePieces}
+use Rattle.rules.specs.Lines.{Line, line}
+use Rattle.rules.specs.Block.{kindOf}
+use Rattle.rules.specs.Withhold.{Piece, marks, goesOn, inlinePieces, linePieces}
 use Rattle.rules.specs.declared.Rules.{Rules}
-use Rattle.rules.proofs.Cut.{content-length, lead-length, lineFrom, lineTo, to-within, blank-apart}
+use Rattle.rules.proofs.Cut.{content-length, lineFrom, lineTo, to-within, blank-apart}
 use Rattle.rules.proofs.LineLaws.{contentFrom, leadAt}
 use Rattle.screen.specs.Remaining.{isPlain, lineAt, endsParagraph, fromLine, fromIndex, ParagraphEnd}
 use Rattle.screen.proofs.Ahead.{not-open}

@@ -1,27 +1,25 @@
 -- Places between pieces. In front of a line all pieces from it on remain; a line gives its block, or the first piece of its paragraph, or the line behind it.
 use mathlib.Core.Path.{_≡_, refl, sym, _∙_, ap, subst}
-use mathlib.Core.Bool.{Bool, true, false, not}
+use mathlib.Core.Bool.{true, false}
 use mathlib.Core.List.{List, [], _∷_, _++_}
-use Prim.Native.Nat.{ℕ, zero, suc, _+_, _-_, _<_, _≤_}
+use Prim.Native.Nat.{ℕ, _+_, _-_, _<_, _≤_}
 use native.Mathlib.Omega.{arith}
 use lib.Dec.{eqb, ltb}
-use lib.ListN.{length, getD, take, drop, length-drop}
+use lib.ListN.{length, take, drop}
 use lib.Seq.{drop-drop, length-take-le, take-take}
 use borrow.Author.Tests.{eqb-true, eq-eqb, ltb-true, ltb-false}
 use Rattle.lexical.specs.Text.{byte, first, run}
 use Rattle.lexical.specs.Byte.{isLineEndingByte, isSpaceOrTab}
 use Rattle.lexical.specs.Name.{all}
-use Rattle.lexical.specs.Line.{lineEnding, lineLength, isBlank}
+use Rattle.lexical.specs.Line.{lineLength, isBlank}
 use Rattle.lexical.proofs.Cases.{split, clash}
-use Rattle.lexical.proofs.Run.{run-length}
 use Rattle.rules.specs.Block.{kindOf}
-use Rattle.rules.specs.Withhold.{Piece, Which, piece, inline, block, inlinePieces}
+use Rattle.rules.specs.Withhold.{Piece, Which, piece, inline, inlinePieces}
 use Rattle.rules.specs.declared.Rules.{Rules}
 use Rattle.lexical.proofs.Ending.{ending-within}
 use Rattle.rules.proofs.Cut.{lineFrom}
-use Rattle.rules.proofs.LineLaws.{contentFrom}
 use Rattle.screen.specs.Closer.{Known, allAhead}
-use Rattle.screen.specs.Remaining.{isPlain, lineAt, fromLine, BlockEnd, fromIndex, ParagraphEnd, Onward, atLine, remaining, Valid, Leads, Same, Opens}
+use Rattle.screen.specs.Remaining.{isPlain, lineAt, fromLine, fromIndex, ParagraphEnd, Onward, atLine, remaining, Valid, Leads, Same}
 use Rattle.screen.specs.declared.closers.Closers.{Closers}
 use Rattle.screen.specs.declared.paragraph.End.{End}
 use Rattle.screen.specs.declared.pieces.Cursor.{Cursor}

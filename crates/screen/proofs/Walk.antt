@@ -1,26 +1,20 @@
 -- From piece to piece. Between the end of one piece and the start of the next all bytes are shown, since the pieces stand in order; so the bytes shown so far and
 -- those still to be shown are together what withholding shows, and the pieces passed and those that remain are together its pieces.
 use mathlib.Core.Path.{_≡_, refl, sym, _∙_, ap, subst}
-use mathlib.Core.Bool.{true, false}
 use mathlib.Core.List.{List, [], _∷_, _++_}
 use Prim.Native.Nat.{ℕ, suc, _+_, _-_, _<_, _≤_}
 use native.Mathlib.Omega.{arith}
-use lib.Dec.{eqb}
 use lib.ListN.{length, take, drop, length-append, length-drop}
 use lib.Seq.{length-take-le, take-all, drop-length}
 use Rattle.lexical.specs.Buffer.{stored, Written}
 use Rattle.lexical.proofs.Cases.{split}
 use Rattle.lexical.proofs.Stores.{stores, from-front, same}
 use Rattle.lexical.proofs.Suffix.{suffix-out}
-use Rattle.rules.specs.Search.{choose}
-use Rattle.rules.specs.Lines.{linesOf}
 use Rattle.rules.specs.Withhold.{Piece, piece, pieces, isWithheld, outside, shown, count, shows, written}
 use Rattle.rules.specs.declared.Rules.{Rules}
-use Rattle.runs.proofs.Ordered.{Ordered, none, one-more, bounds, first-from, first-some, others, first-to, pieces-ordered, outside-none, outside-next}
-use Rattle.screen.specs.Answer.{shownOf}
+use Rattle.runs.proofs.Ordered.{Ordered, none, bounds, first-from, first-some, others, first-to, pieces-ordered, outside-none, outside-next}
 use Rattle.screen.specs.Remaining.{fromLine, atLine, remaining, Valid, Leads, Shows}
 use Rattle.screen.specs.declared.pieces.Cursor.{Cursor}
-use Rattle.screen.specs.declared.withhold.Withheld.{Withheld}
 use Rattle.screen.specs.declared.withhold.Withheld.the-variants.{Shown as ShownBytes}
 use Rattle.screen.proofs.Places.{line-valid, line-remaining}
 

@@ -1,5 +1,4 @@
 -- What an answer of withholding says, by 01's numbers and values for each case.
-use Prim.Native.Nat.{ℕ}
 use Rattle.rules.specs.Withhold.{Shown, shows, refusedShown}
 use Rattle.screen.specs.declared.withhold.Withheld.{Withheld}
 use Rattle.screen.specs.declared.withhold.Withheld.the-variants.{Shown as ShownBytes, Refused}

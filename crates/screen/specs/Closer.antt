@@ -1,7 +1,7 @@
 -- What is known of the closers ahead in a paragraph, in the order of the code. It need not be believed: no public contract cites it.
 use mathlib.Core.Path.{_≡_}
 use mathlib.Core.Bool.{Bool, true, false, _&&_}
-use mathlib.Core.List.{List, [], _∷_}
+use mathlib.Core.List.{List, []}
 use Prim.Native.Nat.{ℕ}
 use lib.ListN.{drop}
 use Rattle.lexical.specs.Text.{bytes, first}

@@ -1,12 +1,9 @@
 // The pieces of a bulletin, one after the other.
 ghost use mathlib.Core.Path.{_≡_};
-ghost use Prim.Native.Nat.{_+_, _<_, _≤_};
-ghost use lib.ListN.{length, drop};
-ghost use Rattle.lexical.specs.Text.{run};
+ghost use Prim.Native.Nat.{_<_, _≤_};
+ghost use lib.ListN.{length};
 ghost use Rattle.rules.specs.Block.{kindOf};
-ghost use Rattle.rules.specs.Lines.{linesOf};
-ghost use Rattle.rules.specs.Scan.{foundBlock, blockOf};
-ghost use Rattle.screen.specs.Remaining.{isPlain, lineAt, BlockEnd, atLine, Valid, Opens, fromLine, remaining, TurnTo, Goes};
+ghost use Rattle.screen.specs.Remaining.{lineAt, BlockEnd, atLine, Valid, Opens, fromLine, remaining, TurnTo, Goes};
 use crate::closers::Closers;
 use crate::closers::all_ahead;
 use crate::paragraph::End;

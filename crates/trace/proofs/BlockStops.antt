@@ -8,13 +8,13 @@ use native.Mathlib.Omega.{arith}
 use lib.Dec.{eqb, ltb}
 use lib.ListN.{length, take, drop, length-drop}
 use borrow.Author.Tests.{eq-eqb, eqb-true, ltb-true, ltb-false}
-use Rattle.lexical.specs.Text.{limit, byte}
+use Rattle.lexical.specs.Text.{limit}
 use Rattle.lexical.specs.Line.{isLineStart, lineEndings}
 use Rattle.lexical.proofs.Cases.{split}
 use Rattle.lexical.proofs.Ending.{ends-out}
 use Rattle.rules.specs.Reading.{crate as ofCrate}
 use Rattle.rules.specs.Refusal.{blockRefusal}
-use Rattle.rules.specs.Lines.{Line, push, cutLines, flagged, linesOf}
+use Rattle.rules.specs.Lines.{Line}
 use Rattle.rules.specs.Block.{kindOf, extentOf, stopAfter}
 use Rattle.rules.specs.Scan.{foundBlock, noBlock, refusedBlock, blockOf, linesAt, blockAt, blockScan}
 use Rattle.trace.proofs.Stops.{Between, first-check, next-check}

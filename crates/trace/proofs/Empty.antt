@@ -14,7 +14,7 @@ use Rattle.lexical.specs.Line.{lineEnding}
 use Rattle.lexical.proofs.Cases.{split}
 use Rattle.rules.specs.Lines.{Line, line, push, cutLines}
 use Rattle.rules.specs.Trace.{endsEmpty, taken, flowExit}
-use Rattle.rules.proofs.LineLaws.{push-length, some-lines}
+use Rattle.rules.proofs.LineLaws.{some-lines}
 use Rattle.lexical.proofs.Ending.{ending-length}
 
 later : (l : Line) (ls : List Line) → 0 < length ls → endsEmpty (l ∷ ls) ≡ endsEmpty ls
