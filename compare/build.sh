@@ -1,5 +1,5 @@
 #!/bin/sh
-# Builds the reference (libreference.rlib) and the program oracle.
+# Builds the reference (libreference.rlib) and the programs oracle and record.
 #
 #     compare/build.sh [--debug] [FOLDER]
 #
@@ -25,4 +25,6 @@ build() {
 }
 
 build --crate-type rlib --crate-name reference src/reference.rs
-build --crate-type bin --crate-name oracle --extern "reference=$out/libreference.rlib" src/oracle.rs
+for program in oracle record; do
+    build --crate-type bin --crate-name $program --extern "reference=$out/libreference.rlib" src/$program.rs
+done

@@ -1,6 +1,7 @@
 //! Random scans, compared with what shared/01-scope.md says of stops, carry
 //! and events where the kind and the place of a closer are known.
 
+use crate::generator::Random;
 use crate::{to_hex, words};
 use reference::{blank, block, holds_blank_line, inline, line_end, line_starts, Ev};
 
@@ -20,39 +21,27 @@ const OPENINGS: [&[u8]; 16] = [
     b"<a", b"<a b", b"<a b=c", b"</a", b"  <a b=", b"   <a ",
 ];
 
-/// A small generator (xorshift).
-struct Random(u64);
-
-impl Random {
-    fn below(&mut self, bound: usize) -> usize {
-        self.0 ^= self.0 << 13;
-        self.0 ^= self.0 >> 7;
-        self.0 ^= self.0 << 17;
-        (self.0 >> 33) as usize % bound
+fn text(random: &mut Random) -> Vec<u8> {
+    let mut text = vec![];
+    if random.below(3) > 0 {
+        text.extend_from_slice(OPENINGS[random.below(OPENINGS.len())]);
     }
-
-    fn text(&mut self) -> Vec<u8> {
-        let mut text = vec![];
-        if self.below(3) > 0 {
-            text.extend_from_slice(OPENINGS[self.below(OPENINGS.len())]);
+    for _ in 0..random.below(20) {
+        if random.below(20) == 0 {
+            text.push(random.below(256) as u8);
+        } else {
+            text.extend_from_slice(PIECES[random.below(PIECES.len())]);
         }
-        for _ in 0..self.below(20) {
-            if self.below(20) == 0 {
-                text.push(self.below(256) as u8);
-            } else {
-                text.extend_from_slice(PIECES[self.below(PIECES.len())]);
-            }
-        }
-        text
     }
+    text
 }
 
 /// Scan `count` random texts; tell whether every answer has its shape.
 pub fn all_hold(count: u64, seed: u64) -> bool {
-    let mut random = Random(seed.wrapping_mul(0x9e37_79b9_7f4a_7c15) | 1);
+    let mut random = Random::new(seed);
     let mut found = [0; 9];
     for _ in 0..count {
-        let text = random.text();
+        let text = text(&mut random);
 
         let starts = line_starts(&text);
         let lazy_too = random.below(2) == 0;

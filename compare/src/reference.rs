@@ -6,7 +6,8 @@
 //! stand-in: `state`, `message`, `resolve`, `unist`, `options`,
 //! `util::location`, `util::skip` and `construct::blank_line`.
 //!
-//! `scan` drives, `trace` writes the bytes of the Traces paragraph.
+//! `scan` drives, `trace` writes the bytes of the Traces paragraph, `coverage`
+//! notes which states a scan visits.
 
 extern crate alloc;
 
@@ -24,6 +25,7 @@ mod subtokenize;
 mod tokenizer;
 
 mod construct;
+mod coverage;
 mod message;
 mod options;
 mod resolve;
@@ -35,6 +37,8 @@ mod util;
 
 use options::ParseOptions;
 
+pub use coverage::{flow_states, take_visited, text_states, Visited, CLASSES};
 pub use scan::{blank, block, holds_blank_line, inline, line_end, line_starts};
 pub use scan::{Block, Ev, Inline};
 pub use trace::{trace_block, trace_inline};
+pub use util::constant::{HTML_BLOCK_NAMES, HTML_RAW_NAMES};

@@ -1,5 +1,6 @@
 //! Drives the two constructs from line 1, column 1 to Ok or Nok.
 
+use crate::coverage;
 use crate::event::{Event, Kind, Name, Point};
 use crate::message::Message;
 use crate::options;
@@ -182,6 +183,7 @@ fn attempt(tokenizer: &mut Tokenizer) {
 /// `size_c`) that neither construct uses.
 #[inline]
 pub(crate) fn watch(tokenizer: &mut Tokenizer, name: StateName) {
+    coverage::note(tokenizer, name);
     match name {
         StateName::HtmlFlowContinuationAfter => {
             tokenizer.tokenize_state.size_b = usize::from(tokenizer.tokenize_state.marker);

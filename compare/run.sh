@@ -1,0 +1,36 @@
+#!/usr/bin/env bash
+# The differential run: the library, as its archive, against the Rust crate's files, on the same inputs.
+#
+#     compare/run.sh [--archive FILE] [--seed N] [--count N | --long]
+#
+# FILE is target/staticlib/libforingamo.a where none is given, and is then made first. The seed is 1 and the count of random texts 1,000,000 where none is
+# given; the head of compare/src/differ.rs tells what is compared. The short form takes about half a minute on two cores, --long about three minutes.
+# Where rustc or the crate's files are not there it says so, and nothing is compared.
+cd "$(dirname "$0")/.." || exit 1
+
+# ends MESSAGE PASSED-AND-FAILED STATUS
+ends() {
+    echo "compare: $1"
+    echo "$2"
+    exit "$3"
+}
+
+command -v rustc >/dev/null || ends "no rustc, so nothing is compared" "0 passed, 0 failed" 0
+[ -d ../shared/docs/src/src ] || ends "the Rust crate's files are not in ../shared/docs/src, so nothing is compared" "0 passed, 0 failed" 0
+
+archive=target/staticlib/libforingamo.a
+if [ "${1:-}" = --archive ]; then
+    archive=${2:?an archive}
+    shift 2
+else
+    rt staticlib foringamo >/dev/null || ends "rt staticlib foringamo failed" "0 passed, 1 failed" 1
+fi
+
+# The linker looks for the archive by its name in a folder.
+compare/build.sh &&
+    mkdir -p target/compare/archive &&
+    cp "$archive" target/compare/archive/libforingamo.a &&
+    rustc --edition 2021 -C codegen-units=1 -O --out-dir target/compare --crate-type bin --crate-name differ \
+        --extern reference=target/compare/libreference.rlib -L target/compare/archive -l static=foringamo \
+        compare/src/differ.rs || ends "the programs were not built" "0 passed, 1 failed" 1
+exec target/compare/differ "$@"
