@@ -4,6 +4,10 @@ use crate::check::{self, Difference, Outcome, Work};
 use crate::families::Kind;
 use crate::hex::to_hex;
 use reference::line_starts;
+use std::time::{Duration, Instant};
+
+/// How long an input is made smaller.
+const PATIENCE: Duration = Duration::from_secs(20);
 
 /// What is asked of both. `bytes` is the text, the bulletin or the trace.
 #[derive(Clone)]
@@ -118,16 +122,17 @@ impl Ask {
     }
 }
 
-/// Deletes bytes, first many at once, while it still differs.
+/// Deletes bytes, first many at once, while it still differs in the same thing.
 pub fn shrink(ask: &Ask) -> (Ask, Difference) {
     let mut best = ask.clone();
     let what = best.difference().expect("the input differs").what;
+    let begun = Instant::now();
     loop {
         let before = (best.bytes.len(), best.flags.clone(), best.index, best.carry);
         let mut size = best.bytes.len();
         while size > 0 {
             let mut from = 0;
-            while from + size <= best.bytes.len() {
+            while from + size <= best.bytes.len() && begun.elapsed() < PATIENCE {
                 let small = best.without(from, from + size);
                 if small.differs_in(&what) {
                     best = small;
