@@ -39,6 +39,7 @@ use options::ParseOptions;
 
 pub use coverage::{flow_states, take_visited, text_states, Visited, CLASSES};
 pub use scan::{blank, block, holds_blank_line, inline, line_end, line_starts};
+pub use scan::{block_answer, inline_answer};
 pub use scan::{Block, Ev, Inline};
 pub use trace::{trace_block, trace_inline};
 pub use util::constant::{HTML_BLOCK_NAMES, HTML_RAW_NAMES};

@@ -46,6 +46,16 @@ pub struct Block {
 /// The index is at most the length, the carry at most 5, and the text holds no
 /// blank line between two line endings.
 pub fn inline(text: &[u8], index: usize, carry: usize) -> Inline {
+    inline_with(text, index, carry, events)
+}
+
+/// The same with no events given, so that a benchmark does not count their
+/// copying. The tokenizer has made them.
+pub fn inline_answer(text: &[u8], index: usize, carry: usize) -> Inline {
+    inline_with(text, index, carry, no_events)
+}
+
+fn inline_with(text: &[u8], index: usize, carry: usize, events: Events) -> Inline {
     assert!(index <= text.len(), "index above the length");
     assert!(carry <= 5, "carry above 5");
     let parse_state = parse_state(text);
@@ -73,6 +83,15 @@ pub fn inline(text: &[u8], index: usize, carry: usize) -> Inline {
 /// The index is a line's first byte. There is one flag for each line: 1 lazy,
 /// 2 interrupt, 3 both, 0 neither.
 pub fn block(bulletin: &[u8], flags: &[u8], index: usize) -> Block {
+    block_with(bulletin, flags, index, events)
+}
+
+/// The same with no events given.
+pub fn block_answer(bulletin: &[u8], flags: &[u8], index: usize) -> Block {
+    block_with(bulletin, flags, index, no_events)
+}
+
+fn block_with(bulletin: &[u8], flags: &[u8], index: usize, events: Events) -> Block {
     let parse_state = parse_state(bulletin);
     let mut tokenizer = Tokenizer::new(start(), &parse_state);
 
@@ -232,8 +251,14 @@ fn back_over_cr(text: &[u8], stop: usize) -> usize {
     }
 }
 
+type Events = fn(&Tokenizer) -> Vec<Ev>;
+
 fn events(tokenizer: &Tokenizer) -> Vec<Ev> {
     tokenizer.events.iter().map(event).collect()
+}
+
+fn no_events(_: &Tokenizer) -> Vec<Ev> {
+    vec![]
 }
 
 fn event(event: &Event) -> Ev {
