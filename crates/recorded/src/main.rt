@@ -12,7 +12,7 @@
 // The files stdin and stdout are written by compare/record.sh, which asks the Rust, and 01's table for refusals; it tells what the cases cover.
 ghost use Prim.Native.Nat.{_<_, _≤_};
 ghost use lib.ListN.{length};
-use flow::html_flow::Kind;
+use flow::html_flow::kind_number;
 use flow::scan::Block;
 use flow::scan::block_scan;
 use html::scan::inline_scan;
@@ -108,19 +108,6 @@ fn print_bytes(bytes: &[u8]) {
     }
 }
 
-// 01's number of a kind.
-fn number_of(kind: Kind) -> u8 {
-    match kind {
-        Kind::Raw => 1,
-        Kind::Comment => 2,
-        Kind::Instruction => 3,
-        Kind::Declaration => 4,
-        Kind::Cdata => 5,
-        Kind::Basic => 6,
-        Kind::Complete => 7,
-    }
-}
-
 fn show_inline(answer: Inline) {
     match answer {
         Inline::Found { stop, carry } => {
@@ -140,7 +127,7 @@ fn show_inline(answer: Inline) {
 fn show_block(answer: Block) {
     match answer {
         Block::Found { kind, stop, closed } => {
-            put(b"found ", number_of(kind) as u64);
+            put(b"found ", kind_number(kind) as u64);
             put(b" ", stop as u64);
             if closed {
                 io::write_all(1, b" yes");
