@@ -1,15 +1,19 @@
 -- Refusal 6 at an index of a text.
 use mathlib.Core.Path.{_≡_, refl, sym, _∙_, ap}
-use mathlib.Core.Bool.{Bool, true, false, _&&_, _||_}
-use mathlib.Core.List.{List}
+use mathlib.Core.Bool.{Bool, true, false, _&&_, _||_, not}
+use mathlib.Core.List.{List, _∷_}
 use Prim.Native.Nat.{ℕ, _+_}
+use lib.Dec.{eqb}
 use lib.ListN.{drop}
+use borrow.Author.Tests.{not-true}
 use lib.Seq.{drop-drop}
-use Rattle.lexical.specs.Text.{first, run}
+use Rattle.lexical.specs.Text.{byte, first, run}
 use Rattle.lexical.specs.Byte.{isSpaceOrTab, isLineEndingByte}
-use Rattle.lexical.specs.Line.{endsLine}
+use Rattle.lexical.specs.Line.{endsLine, lineLength}
 use Rattle.lexical.proofs.Suffix.{suffix-next}
-use Rattle.rules.specs.Search.{past}
+use Rattle.lexical.proofs.Cases.{or-left, or-right}
+use Rattle.lexical.proofs.Run.{behind-at}
+use Rattle.rules.specs.Search.{past, somewhere}
 use Rattle.rules.specs.Refusal.{blankFollows}
 use Rattle.rules.proofs.Past.{past-run}
 
@@ -25,3 +29,12 @@ module _ (text : List ℕ) (i : ℕ) where
   pub blank-no : endsLine (drop i text) ≡ false → blankFollows (drop i text) ≡ false
   unfolding blankFollows
   blank-no e = rw e
+
+-- ---- no blank line follows a byte of a line's content
+inner-no : (x : ℕ) (xs : List ℕ) → not (isLineEndingByte x) ≡ true → somewhere blankFollows (x ∷ xs) ≡ somewhere blankFollows xs
+unfolding somewhere blankFollows endsLine
+inner-no x xs h =
+    let n = not-true _ h in rw (or-left (eqb x (byte "\n")) (eqb x (byte "\r")) n, or-right (eqb x (byte "\n")) (eqb x (byte "\r")) n)
+
+pub blank-behind : (text : List ℕ) (i j : ℕ) → j ≡ i + lineLength (drop i text) → somewhere blankFollows (drop i text) ≡ somewhere blankFollows (drop j text)
+blank-behind = behind-at (λ b. not (isLineEndingByte b)) (somewhere blankFollows) inner-no

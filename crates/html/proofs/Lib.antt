@@ -1,4 +1,5 @@
 pub mod Turn
+pub mod Body
 pub mod Blank
 pub mod Kept
 pub mod TextTags

@@ -5,7 +5,8 @@ use mathlib.Core.Bool.{Bool, true, false, _&&_, _||_}
 use mathlib.Core.List.{List, [], _∷_}
 use lib.Dec.{eqb, leb}
 use lib.ListN.{drop}
-use Rattle.lexical.specs.Text.{byte, pick, first}
+use Rattle.lexical.specs.Text.{byte, pick, first, run}
+use Rattle.lexical.specs.Line.{isInner}
 use Rattle.lexical.specs.Byte.{isLetter, isTagNameByte, isAttributeNameStart, isAttributeNameByte, isSpaceOrTab, isLineEndingByte, isWhitespace, isQuote, isValueExcluded}
 use Rattle.lexical.specs.Name.{cdataPrefix}
 use Rattle.rules.specs.Inline.{Read, takes, lacks}
@@ -153,3 +154,36 @@ follow Nok c xs go = lacks c
 unfoldable pub runOf : Rules → StateName → ℕ → List ℕ → Read
 runOf ρ s k [] = lacks k
 runOf ρ s k (x ∷ xs) = follow (stepOf ρ s k x) k xs (λ s′ k′. runOf ρ s′ k′ xs)
+
+-- the byte that ends the body of a state; no body: 0
+abbrev pub bodyMark : StateName → ℕ
+bodyMark Start = 0
+bodyMark Open = 0
+bodyMark DeclarationOpen = 0
+bodyMark CommentOpenInside = 0
+bodyMark Comment = byte "-"
+bodyMark CommentClose = 0
+bodyMark CommentEnd = 0
+bodyMark CdataOpenInside = 0
+bodyMark Cdata = byte "]"
+bodyMark CdataClose = 0
+bodyMark CdataEnd = 0
+bodyMark Declaration = byte ">"
+bodyMark Instruction = byte "?"
+bodyMark InstructionClose = 0
+bodyMark TagCloseStart = 0
+bodyMark TagClose = 0
+bodyMark TagCloseBetween = 0
+bodyMark TagOpen = 0
+bodyMark TagOpenBetween = 0
+bodyMark TagOpenAttributeName = 0
+bodyMark TagOpenAttributeNameAfter = 0
+bodyMark TagOpenAttributeValueBefore = 0
+bodyMark (TagOpenAttributeValueQuoted m) = m
+bodyMark TagOpenAttributeValueQuotedAfter = 0
+bodyMark TagOpenAttributeValueUnquoted = 0
+bodyMark End = 0
+
+-- how many bytes in front leave a state with such a mark as it is, as far as the line goes
+abbrev pub bodyLength : ℕ → List ℕ → ℕ
+bodyLength m s = pick (eqb m 0) 0 (run (isInner m) s)

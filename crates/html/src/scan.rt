@@ -13,6 +13,7 @@ use crate::tokenizer::run;
 use lexical::byte::peek;
 use lexical::constant::is_over_limit;
 use lexical::line::ends_line;
+use lexical::line::line_end;
 use lexical::line::space_or_tab_end;
 use rules::Rules;
 
@@ -41,12 +42,12 @@ fn blank_follows(text: &[u8], index: usize) -> bool
 fn has_blank_line(text: &[u8]) -> bool
     ensures { λ r. ⌜ r ≡ somewhere blankFollows (now (text .entry)) ⌝ }
 {
-    let mut i = 0;
+    let mut i = line_end(text, 0);
     while i < text.len() {
         if blank_follows(text, i) {
             return true;
         }
-        i += 1;
+        i = line_end(text, i + 1);
     }
     false
 }

@@ -1,10 +1,12 @@
 // tokenizer.rs: the names of the states, the step that calls a state's function, and the run of a scan.
 ghost use mathlib.Core.Path.{_≡_};
+ghost use Prim.Native.Nat.{_+_};
 ghost use lib.ListN.{length, drop};
 ghost use Rattle.rules.specs.Scan.{inlineAnswer};
-ghost use Rattle.html.specs.TextMachine.{stepOf, runOf};
+ghost use Rattle.html.specs.TextMachine.{stepOf, runOf, bodyMark, bodyLength};
 ghost use Rattle.html.specs.Answer.{inlineOf};
 use crate::html_text;
+use lexical::line::mark_or_line_end;
 use rules::Rules;
 
 pub enum StateName {
@@ -94,6 +96,31 @@ fn step(rules: Rules, state: StateName, size: u8, b: u8) -> State
     }
 }
 
+// The byte that ends the body of a state: another one, but a line ending, leaves the state as it is. A state without a body: 0.
+fn body_mark(state: StateName) -> u8
+    ensures { λ r. ⌜ r ≡ bodyMark state ⌝ }
+{
+    match state {
+        StateName::Comment => b'-',
+        StateName::Cdata => b']',
+        StateName::Declaration => b'>',
+        StateName::Instruction => b'?',
+        StateName::TagOpenAttributeValueQuoted(marker) => marker,
+        _ => 0,
+    }
+}
+
+// Past the bytes at an index that leave the state as it is, as far as the line goes.
+fn body_end(text: &[u8], index: usize, state: StateName) -> usize
+    ensures { λ r. ⌜ r ≡ index + bodyLength (bodyMark state) (drop index (now (text .entry))) ⌝ }
+{
+    let mark = body_mark(state);
+    if mark == 0 {
+        return index;
+    }
+    mark_or_line_end(text, index, mark)
+}
+
 // From a state at an index to the end of the text.
 pub(crate) fn run(rules: Rules, text: &[u8], from: usize, start: StateName, carry: u8) -> Inline
     ensures { λ r. ⌜ inlineOf r ≡ inlineAnswer (length (now (text .entry))) (runOf rules start carry (drop from (now (text .entry)))) ⌝ }
@@ -106,6 +133,7 @@ pub(crate) fn run(rules: Rules, text: &[u8], from: usize, start: StateName, carr
             State::Next(s, k) => {
                 state = s;
                 size = k;
+                index = body_end(text, index + 1, s);
             }
             State::Ok => {
                 let stop = index + 1;
@@ -115,7 +143,6 @@ pub(crate) fn run(rules: Rules, text: &[u8], from: usize, start: StateName, carr
                 return Inline::Missing { carry: size };
             }
         }
-        index += 1;
     }
     Inline::Missing { carry: size }
 }

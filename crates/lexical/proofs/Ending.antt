@@ -13,6 +13,8 @@ use Rattle.lexical.specs.Byte.{isSpaceOrTab, isLineEndingByte}
 use Rattle.lexical.specs.Line.{lineEnding, endsLine, lineEndings, isLineStart, lineLength, atLineEnd, isBlank}
 use Rattle.lexical.proofs.Cases.{split, or-left, or-right}
 use Rattle.lexical.proofs.Suffix.{suffix-in, suffix-out}
+use Rattle.lexical.proofs.Run.{behind-at}
+use borrow.Author.Tests.{not-true}
 
 module _ (s : List ℕ) (i : ℕ) where
   pub ending-in : i < length s
@@ -51,13 +53,12 @@ inner-none : (x : ℕ) (xs : List ℕ) → isLineEndingByte x ≡ false → ends
 unfolding endsLine
 inner-none x xs h = rw (or-left (eqb x (byte "\n")) (eqb x (byte "\r")) h, or-right (eqb x (byte "\n")) (eqb x (byte "\r")) h)
 
-content-none : (s : List ℕ) → lineEndings s ≡ lineEndings (drop (lineLength s) s)
-unfolding lineEndings run
-content-none [] = refl
-content-none (x ∷ xs) = split (isLineEndingByte x) (λ h. simp h) (λ h. simp (h, inner-none x xs h) (content-none xs))
+content-none : (x : ℕ) (xs : List ℕ) → not (isLineEndingByte x) ≡ true → lineEndings (x ∷ xs) ≡ lineEndings xs
+unfolding lineEndings
+content-none x xs h = rw (inner-none x xs (not-true _ h))
 
 pub count-behind : (s : List ℕ) (i j : ℕ) → j ≡ i + lineLength (drop i s) → lineEndings (drop i s) ≡ lineEndings (drop j s)
-count-behind s i j e = content-none (drop i s) ∙ ap lineEndings (drop-drop (lineLength (drop i s)) i s ∙ ap (λ n. drop n s) (sym e))
+count-behind s i j e = behind-at (λ b. not (isLineEndingByte b)) lineEndings content-none s i j e
 
 -- ---- sizes
 pub ending-length : (s : List ℕ) → lineEnding s ≤ length s

@@ -1,5 +1,5 @@
 -- Laws of a run: a loop that passes the bytes of a class, one law for every class.
-use mathlib.Core.Path.{_≡_, refl, _∙_, ap}
+use mathlib.Core.Path.{_≡_, refl, sym, _∙_, ap}
 use mathlib.Core.Bool.{Bool, true, false, _&&_, not}
 use mathlib.Core.List.{List, [], _∷_}
 use Prim.Native.Nat.{ℕ, zero, suc, _+_, _<_, _≤_}
@@ -42,6 +42,16 @@ pub run-same : (f g : ℕ → Bool) → ((x : ℕ) → f x ≡ g x) → (s : Lis
 unfolding run
 run-same f g e [] = refl
 run-same f g e (x ∷ xs) = split (g x) (λ h. simp (e x ∙ h, h) (ap suc (run-same f g e xs))) (λ h. simp (e x ∙ h, h))
+
+-- what no byte of a class in front changes is the same behind the class
+pub behind : {A : Type 0} (f : ℕ → Bool) (P : List ℕ → A) → ((x : ℕ) (xs : List ℕ) → f x ≡ true → P (x ∷ xs) ≡ P xs) → (s : List ℕ) → P s ≡ P (drop (run f s) s)
+unfolding run
+behind f P e [] = refl
+behind f P e (x ∷ xs) = split (f x) (λ h. simp h (e x xs h ∙ behind f P e xs)) (λ h. simp h)
+
+pub behind-at : {A : Type 0} (f : ℕ → Bool) (P : List ℕ → A) → ((x : ℕ) (xs : List ℕ) → f x ≡ true → P (x ∷ xs) ≡ P xs)
+    → (s : List ℕ) (i j : ℕ) → j ≡ runEnd f s i → P (drop i s) ≡ P (drop j s)
+behind-at f P e s i j h = behind f P e (drop i s) ∙ ap P (drop-drop (run f (drop i s)) i s ∙ ap (λ n. drop n s) (sym h))
 
 -- ---- several bytes at once
 many : (f : ℕ → Bool) (n : ℕ) (s : List ℕ) → n ≤ length s → all f (take n s) ≡ true → run f s ≡ n + run f (drop n s)

@@ -5,6 +5,7 @@ use lib.ListN.{length, drop}
 use Rattle.rules.specs.Scan.{inlineAnswer}
 use Rattle.html.specs.TextMachine.{runOf}
 use Rattle.html.specs.declared.tokenizer.State.the-variants.{Next, Ok, Nok}
+use Rattle.html.proofs.Body.{body-behind}
 use Rattle.html.proofs.Turn.{turn, ended, stop-is}
 use borrow.Author.Needs.{needs}
 use Rattle.html.proofs.tokenizer.run.Statement.{statement}
@@ -28,6 +29,21 @@ step-requires c κs = search needs
 enum-known-s : tie.Need-enum-known-s Inv-loop μ-loop
 enum-known-s c = search needs
 
+add-body-end : tie.Need-add-body-end Inv-loop μ-loop
+add-body-end c = search needs
+
+body-end-requires : tie.Need-body-end-requires Inv-loop μ-loop
+body-end-requires c κs = search needs
+
+loop-less : tie.Need-loop-less Inv-loop μ-loop
+loop-less c = search (needs, c .body-end .ensures)
+
+loop-again : tie.Need-loop-again Inv-loop μ-loop
+loop-again c =
+    let l = c .before .before .before .before .before .before in
+    sym (body-behind _ _ _ _ _ _ (c .body-end .ensures))
+    ∙ sym (turn _ _ _ _ _ (Next _ _) (l .loop-test .taken) (sym (c .before .before .s .given .1) ∙ c .before .before .before .before .step .ensures)) ∙ l .before .loop .inv
+
 enum-told : tie.Need-enum-told Inv-loop μ-loop
 enum-told c = search needs
 
@@ -50,17 +66,6 @@ returns-2 c =
     let text = l .before .before .before .args .text .now in
     ap (inlineAnswer (length text)) (sym (turn _ _ _ _ _ Nok (l .loop-test .taken) (sym (c .enum-told2 .given .1) ∙ c .before .before .step .ensures)) ∙ l .before .loop .inv)
 
-add-index : tie.Need-add-index Inv-loop μ-loop
-add-index c = search needs
-
-loop-less : tie.Need-loop-less Inv-loop μ-loop
-loop-less c = search needs
-
-loop-again : tie.Need-loop-again Inv-loop μ-loop
-loop-again c =
-    let l = c .before .before .before .before .before in
-    sym (turn _ _ _ _ _ (Next _ _) (l .loop-test .taken) (sym (c .before .s .given .1) ∙ c .before .before .before .step .ensures)) ∙ l .before .loop .inv
-
 returns-3 : tie.Need-returns-3 Inv-loop μ-loop
 returns-3 c =
     let text = c .before .before .before .args .text .now in
@@ -76,12 +81,13 @@ run-spec =
     shared-slice-read-step
     step-requires
     enum-known-s
+    add-body-end
+    body-end-requires
+    loop-less
+    loop-again
     enum-told
     add-stop
     returns
     enum-told-2
     returns-2
-    add-index
-    loop-less
-    loop-again
     returns-3)
