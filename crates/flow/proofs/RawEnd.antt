@@ -1,7 +1,7 @@
 -- A raw end tag by its letters. The recursion takes letters, at most eight, and asks at `>` whether they are a raw name; a raw name has at most eight bytes,
 -- all letters, so that this is the same as asking of the whole tag name whether it is one and `>` follows.
 use mathlib.Core.Path.{_≡_, refl, sym, _∙_, ap}
-use mathlib.Core.Bool.{Bool, true, false, _&&_, _||_}
+use mathlib.Core.Bool.{Bool, true, false, _&&_, _||_, not}
 use mathlib.Core.List.{List, [], _∷_, map}
 use Prim.Native.Nat.{ℕ, zero, suc, _+_, _-_, _<_, _≤_}
 use native.Mathlib.Omega.{arith}
@@ -9,15 +9,17 @@ use lib.Dec.{eqb, leb}
 use lib.ListN.{length, getD, take, drop, length-map}
 use lib.Seq.{drop-drop, getD-take, getD-drop, length-take-le}
 use Rattle.lexical.proofs.Run.{run-length}
-use borrow.Author.Tests.{eq-eqb, ne-eqb, eqb-true}
+use borrow.Author.Tests.{eq-eqb, ne-eqb, eqb-true, not-true}
 use Rattle.lexical.specs.Text.{byte, bytes, first, run}
-use Rattle.lexical.specs.Byte.{within, isLetter, isDigit, isTagNameByte, lower}
+use Rattle.lexical.specs.Byte.{within, isLetter, isDigit, isTagNameByte, isLineEndingByte, lower}
+use Rattle.lexical.specs.Line.{isInner}
 use Rattle.lexical.specs.Name.{all, rawNames, sameBytes, isMember, isRawName}
-use Rattle.lexical.proofs.Cases.{split, clash, and-left, and-right, or-right, and-no, and-yes, letter-byte}
+use Rattle.lexical.proofs.Cases.{split, clash, and-left, and-right, or-left, or-right, and-no, and-yes, letter-byte}
 use Rattle.lexical.proofs.RawNames.{raw-letters, raw-length}
 use Rattle.lexical.proofs.Table.{all-at}
 use Rattle.lexical.proofs.Suffix.{suffix-in, suffix-out, first-in, first-out}
-use Rattle.rules.specs.Search.{choose, begins}
+use Rattle.rules.specs.Search.{choose, begins, somewhere}
+use Rattle.rules.proofs.Past.{somewhere-behind}
 use Rattle.rules.specs.Block.{nameOf, afterName, isRawEnd}
 use Rattle.flow.specs.ContinuationMachine.{rawEndOf}
 
@@ -190,3 +192,10 @@ module _ (line : List ℕ) (i : ℕ) where
 
   pub raw-at : i + 1 < length line → getD line i 0 ≡ byte "<" → getD line (i + 1) 0 ≡ byte "/" → rawEndOf 8 (drop (i + 1 + 1) line) 0 ≡ isRawEnd (drop i line)
   raw-at h a b = let l : i < length line = omega arith in rw (suffix-in line i l, suffix-in line (i + 1) h, a, b) (raw-end-is (drop (i + 1 + 1) line))
+
+-- ---- no raw end tag begins at another byte than `<`
+no-tag : (x : ℕ) (xs : List ℕ) → isInner (byte "<") x ≡ true → isRawEnd (x ∷ xs) ≡ false
+no-tag x xs h = rw (or-left (eqb x (byte "<")) (isLineEndingByte x) (not-true _ h))
+
+pub raw-end-behind : (line : List ℕ) (i j : ℕ) → j ≡ i + run (isInner (byte "<")) (drop i line) → somewhere isRawEnd (drop i line) ≡ somewhere isRawEnd (drop j line)
+raw-end-behind = somewhere-behind (isInner (byte "<")) isRawEnd no-tag

@@ -58,6 +58,24 @@ isClose ContinuationCdataInside = false
 isClose ContinuationDeclarationInside = false
 isClose ContinuationClose = true
 
+-- the last byte was not of a closer
+abbrev pub isContinuation : ContinuationName → Bool
+isContinuation Continuation = true
+isContinuation ContinuationCommentInside = false
+isContinuation ContinuationCdataInside = false
+isContinuation ContinuationDeclarationInside = false
+isContinuation ContinuationClose = false
+
+-- the first byte of the closer
+abbrev pub closerStart : Kind → ℕ
+closerStart Raw = byte "\n"
+closerStart Comment = byte "-"
+closerStart Instruction = byte "?"
+closerStart Declaration = byte ">"
+closerStart Cdata = byte "]"
+closerStart Basic = byte "\n"
+closerStart Complete = byte "\n"
+
 unfoldable pub meetsOf : Rules → Kind → ContinuationName → List ℕ → Bool
 meetsOf ρ κ s [] = isClose s
 meetsOf ρ κ s (x ∷ xs) = isClose s || meetsOf ρ κ (nextOf ρ κ s x) xs

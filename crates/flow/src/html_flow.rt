@@ -8,7 +8,7 @@ ghost use lib.ListN.{length, drop};
 ghost use Rattle.rules.specs.Search.{somewhere};
 ghost use Rattle.rules.specs.Block.{isRawEnd, closes};
 ghost use Rattle.flow.specs.Answer.{kindNumber};
-ghost use Rattle.flow.specs.ContinuationMachine.{continuationOf, commentInsideOf, cdataInsideOf, stays, declarationInsideOf, nextOf, isClose, meetsOf, rawEndOf};
+ghost use Rattle.flow.specs.ContinuationMachine.{continuationOf, commentInsideOf, cdataInsideOf, stays, declarationInsideOf, nextOf, isClose, isContinuation, closerStart, meetsOf, rawEndOf};
 ghost use Rattle.flow.specs.declared.html_flow.ContinuationName.the-variants.{Continuation, ContinuationClose};
 ghost use Prim.Native.Nat.{_+_};
 ghost use Rattle.lexical.specs.Text.{run};
@@ -48,6 +48,7 @@ use lexical::constant::is_cdata_prefix_byte;
 use lexical::constant::is_raw_name;
 use lexical::line::is_blank;
 use lexical::line::line_end;
+use lexical::line::mark_or_line_end;
 use lexical::line::next_line;
 use lexical::slice::from_indices;
 use rules::Rules;
@@ -410,20 +411,52 @@ fn is_close(name: ContinuationName) -> bool
     }
 }
 
+// Whether the last byte was not of a closer.
+fn is_continuation(name: ContinuationName) -> bool
+    ensures { λ r. ⌜ r ≡ isContinuation name ⌝ }
+{
+    match name {
+        ContinuationName::Continuation => true,
+        ContinuationName::ContinuationCommentInside => false,
+        ContinuationName::ContinuationCdataInside => false,
+        ContinuationName::ContinuationDeclarationInside => false,
+        ContinuationName::ContinuationClose => false,
+    }
+}
+
+// The first byte of the closer of kinds 2 to 5; LF for the others.
+fn closer_start(kind: Kind) -> u8
+    ensures { λ r. ⌜ r ≡ closerStart kind ⌝ }
+{
+    match kind {
+        Kind::Comment => b'-',
+        Kind::Instruction => b'?',
+        Kind::Declaration => b'>',
+        Kind::Cdata => b']',
+        Kind::Raw => b'\n',
+        Kind::Basic => b'\n',
+        Kind::Complete => b'\n',
+    }
+}
+
 // Whether a line of kinds 2 to 5 has the closer.
 fn meets_closer(rules: Rules, kind: Kind, line: &[u8]) -> bool
     ensures { λ r. ⌜ r ≡ meetsOf rules kind Continuation (now (line .entry)) ⌝ }
 {
+    let mark = closer_start(kind);
     let mut name = ContinuationName::Continuation;
-    let mut i = 0;
+    let mut i = mark_or_line_end(line, 0, mark);
     while i < line.len() {
+        name = continuation_step(rules, kind, name, line[i]);
+        i += 1;
         if is_close(name) {
             return true;
         }
-        name = continuation_step(rules, kind, name, line[i]);
-        i += 1;
+        if is_continuation(name) {
+            i = mark_or_line_end(line, i, mark);
+        }
     }
-    is_close(name)
+    false
 }
 
 // In a raw end tag whose name begins at start and has its letters before at; so many more are allowed.
@@ -475,12 +508,12 @@ fn continuation_raw_tag_open(line: &[u8], at: usize) -> bool
 fn meets_raw_end_tag(line: &[u8]) -> bool
     ensures { λ r. ⌜ r ≡ somewhere isRawEnd (now (line .entry)) ⌝ }
 {
-    let mut i = 0;
+    let mut i = mark_or_line_end(line, 0, b'<');
     while i < line.len() {
         if continuation_raw_tag_open(line, i) {
             return true;
         }
-        i += 1;
+        i = mark_or_line_end(line, i + 1, b'<');
     }
     false
 }

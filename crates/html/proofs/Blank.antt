@@ -12,10 +12,9 @@ use Rattle.lexical.specs.Byte.{isSpaceOrTab, isLineEndingByte}
 use Rattle.lexical.specs.Line.{endsLine, lineLength}
 use Rattle.lexical.proofs.Suffix.{suffix-next}
 use Rattle.lexical.proofs.Cases.{or-left, or-right}
-use Rattle.lexical.proofs.Run.{behind-at}
 use Rattle.rules.specs.Search.{past, somewhere}
 use Rattle.rules.specs.Refusal.{blankFollows}
-use Rattle.rules.proofs.Past.{past-run}
+use Rattle.rules.proofs.Past.{past-run, somewhere-behind}
 
 module _ (text : List ℕ) (i : ℕ) where
   -- the byte behind the spaces and tabs behind the index
@@ -31,10 +30,10 @@ module _ (text : List ℕ) (i : ℕ) where
   blank-no e = rw e
 
 -- ---- no blank line follows a byte of a line's content
-inner-no : (x : ℕ) (xs : List ℕ) → not (isLineEndingByte x) ≡ true → somewhere blankFollows (x ∷ xs) ≡ somewhere blankFollows xs
-unfolding somewhere blankFollows endsLine
-inner-no x xs h =
+content-no : (x : ℕ) (xs : List ℕ) → not (isLineEndingByte x) ≡ true → blankFollows (x ∷ xs) ≡ false
+unfolding blankFollows endsLine
+content-no x xs h =
     let n = not-true _ h in rw (or-left (eqb x (byte "\n")) (eqb x (byte "\r")) n, or-right (eqb x (byte "\n")) (eqb x (byte "\r")) n)
 
 pub blank-behind : (text : List ℕ) (i j : ℕ) → j ≡ i + lineLength (drop i text) → somewhere blankFollows (drop i text) ≡ somewhere blankFollows (drop j text)
-blank-behind = behind-at (λ b. not (isLineEndingByte b)) (somewhere blankFollows) inner-no
+blank-behind = somewhere-behind (λ b. not (isLineEndingByte b)) blankFollows content-no

@@ -7,6 +7,7 @@ use native.Mathlib.Omega.{arith}
 use lib.ListN.{length, drop}
 use Rattle.lexical.specs.Text.{run}
 use Rattle.lexical.proofs.Cases.{split}
+use Rattle.lexical.proofs.Run.{behind-at}
 use Rattle.lexical.proofs.Suffix.{suffix-in, suffix-out}
 use Rattle.rules.specs.Search.{past, somewhere}
 
@@ -42,3 +43,12 @@ module _ (f : List ℕ → Bool) (s : List ℕ) (i : ℕ) where
   pub somewhere-out : length s ≤ i → somewhere f (drop i s) ≡ false
   unfolding somewhere
   somewhere-out h = rw (suffix-out s i h)
+
+-- a class of bytes at which the test does not hold can be passed over
+module _ (g : ℕ → Bool) (f : List ℕ → Bool) (no : (x : ℕ) (xs : List ℕ) → g x ≡ true → f (x ∷ xs) ≡ false) where
+  not-here : (x : ℕ) (xs : List ℕ) → g x ≡ true → somewhere f (x ∷ xs) ≡ somewhere f xs
+  unfolding somewhere
+  not-here x xs h = rw (no x xs h)
+
+  pub somewhere-behind : (s : List ℕ) (i j : ℕ) → j ≡ i + run g (drop i s) → somewhere f (drop i s) ≡ somewhere f (drop j s)
+  somewhere-behind = behind-at g (somewhere f) not-here

@@ -4,6 +4,7 @@ use lib.ListN.{length, drop}
 use Rattle.rules.specs.Search.{somewhere}
 use Rattle.rules.specs.Block.{isRawEnd}
 use Rattle.rules.proofs.Past.{somewhere-in, somewhere-out}
+use Rattle.flow.proofs.RawEnd.{raw-end-behind}
 use borrow.Author.Needs.{needs}
 use Rattle.flow.proofs.html_flow.meets_raw_end_tag.Statement.{statement}
 use Rattle.flow.proofs.html_flow.meets_raw_end_tag.Tie as tie
@@ -14,23 +15,31 @@ Inv-loop line i₀ i = somewhere isRawEnd (drop i line) ≡ somewhere isRawEnd l
 abbrev μ-loop : tie.MeasureT-loop
 μ-loop line i₀ i = length line - i
 
+mark-or-line-end-requires : tie.Need-mark-or-line-end-requires Inv-loop μ-loop
+mark-or-line-end-requires c κs = search needs
+
 loop-holds : tie.Need-loop-holds Inv-loop μ-loop
-loop-holds c = refl
+loop-holds c = sym (raw-end-behind _ 0 _ (c .mark-or-line-end .ensures))
 
 continuation-raw-tag-open-requires : tie.Need-continuation-raw-tag-open-requires Inv-loop μ-loop
 continuation-raw-tag-open-requires c κs = search needs
 
 returns : tie.Need-returns Inv-loop μ-loop
-returns c = let l = c .before .before in sym (somewhere-in isRawEnd _ _ (l .loop-test .taken) ∙ rw (← c .before .continuation-raw-tag-open .ensures, c .if1 .taken)) ∙ l .before .loop .inv
+returns c = sym (somewhere-in isRawEnd _ _ (c .before .before .loop-test .taken) ∙ rw (← c .before .continuation-raw-tag-open .ensures, c .if1 .taken)) ∙ c .before .before .before .loop .inv
 
-add-i : tie.Need-add-i Inv-loop μ-loop
-add-i c = search needs
+add-mark-or-line-end : tie.Need-add-mark-or-line-end Inv-loop μ-loop
+add-mark-or-line-end c = search needs
+
+mark-or-line-end-requires-2 : tie.Need-mark-or-line-end-requires-2 Inv-loop μ-loop
+mark-or-line-end-requires-2 c κs = search needs
 
 loop-less : tie.Need-loop-less Inv-loop μ-loop
-loop-less c = search needs
+loop-less c = search (needs, c .mark-or-line-end2 .ensures)
 
 loop-again : tie.Need-loop-again Inv-loop μ-loop
-loop-again c = let l = c .before .before in sym (somewhere-in isRawEnd _ _ (l .loop-test .taken) ∙ rw (← c .before .continuation-raw-tag-open .ensures, c .if1 .left)) ∙ l .before .loop .inv
+loop-again c =
+    sym (raw-end-behind _ _ _ (c .mark-or-line-end2 .ensures))
+    ∙ sym (somewhere-in isRawEnd _ _ (c .before .before .before .loop-test .taken) ∙ rw (← c .before .before .continuation-raw-tag-open .ensures, c .before .if1 .left)) ∙ c .before .before .before .before .loop .inv
 
 returns-2 : tie.Need-returns-2 Inv-loop μ-loop
 returns-2 c = sym (somewhere-out isRawEnd _ _ (c .loop-test .left)) ∙ c .before .loop .inv
@@ -41,10 +50,12 @@ meets-raw-end-tag-spec =
     (tie.spec
     Inv-loop
     μ-loop
+    mark-or-line-end-requires
     loop-holds
     continuation-raw-tag-open-requires
     returns
-    add-i
+    add-mark-or-line-end
+    mark-or-line-end-requires-2
     loop-less
     loop-again
     returns-2)
