@@ -2,6 +2,7 @@
 ghost use mathlib.Core.Path.{_≡_};
 ghost use Prim.Native.Nat.{_<_, _≤_};
 ghost use lib.ListN.{length, drop};
+ghost use Rattle.lexical.specs.Text.{pick};
 ghost use Rattle.rules.specs.Reading.{crate as ofCrate};
 ghost use Rattle.rules.specs.Search.{somewhere};
 ghost use Rattle.rules.specs.Refusal.{blankFollows};
@@ -52,14 +53,33 @@ fn has_blank_line(text: &[u8]) -> bool
     false
 }
 
-// The answer with another carry.
-fn keep(answer: Inline, carry: u8) -> Inline
-    ensures { λ r. ⌜ inlineOf r ≡ carryingOf carry (inlineOf answer) ⌝ }
+// The first where T2 is made, the second where it is left out.
+fn by_t2(rules: Rules, made: u8, otherwise: u8) -> u8
+    ensures { λ r. ⌜ r ≡ pick (rules .t2) made otherwise ⌝ }
+{
+    if rules.t2 {
+        made
+    } else {
+        otherwise
+    }
+}
+
+// The answer, with the carry passed in where T2 is left out.
+fn keep(rules: Rules, answer: Inline, carry: u8) -> Inline
+    ensures { λ r. ⌜ inlineOf r ≡ pick (rules .t2) (inlineOf answer) (carryingOf carry (inlineOf answer)) ⌝ }
 {
     match answer {
-        Inline::Found { stop, carry: _ } => Inline::Found { stop, carry },
-        Inline::Missing { carry: _ } => Inline::Missing { carry },
-        Inline::Refused { refusal, carry: _ } => Inline::Refused { refusal, carry },
+        Inline::Found { stop, carry: left } => Inline::Found {
+            stop,
+            carry: by_t2(rules, left, carry),
+        },
+        Inline::Missing { carry: left } => Inline::Missing {
+            carry: by_t2(rules, left, carry),
+        },
+        Inline::Refused { refusal, carry: left } => Inline::Refused {
+            refusal,
+            carry: by_t2(rules, left, carry),
+        },
     }
 }
 
@@ -68,10 +88,8 @@ fn scan(rules: Rules, text: &[u8], index: usize, carry: u8) -> Inline
     requires { ⌜ carry ≤ 5 ⌝ }
     ensures { λ r. ⌜ inlineOf r ≡ inlineAt rules (now (text .entry)) index carry ⌝ }
 {
-    if rules.t2 {
-        return run(rules, text, index, StateName::Start, carry);
-    }
-    keep(run(rules, text, index, StateName::Start, 0), carry)
+    let size = by_t2(rules, carry, 0);
+    keep(rules, run(rules, text, index, StateName::Start, size), carry)
 }
 
 // What begins at an index, in any reading and with carry 0. Past the end: none.

@@ -54,7 +54,7 @@ sound names =
     && (chain before names && (rising (length (nameBytes names)) (nameOffsets 0 names) && cuts names))
 
 pub tables-sound : (sound blockNames && sound rawNames) ≡ true
-unfolding sound sameNames sameBytes all chain before rising cut nameBytes nameOffsets blockNames rawNames
+unfolding sound sameNames sameBytes all chain rising cut nameBytes nameOffsets blockNames rawNames
 tables-sound = refl
 
 pub block-sound : sound blockNames ≡ true

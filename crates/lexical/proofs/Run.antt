@@ -11,7 +11,7 @@ use Rattle.lexical.specs.Text.{byte, run}
 use Rattle.lexical.specs.Byte.{isLineEndingByte}
 use Rattle.lexical.specs.Line.{isInner, lineLength}
 use Rattle.lexical.specs.Name.{all}
-use Rattle.lexical.proofs.Cases.{split, and-left, and-right, and-yes}
+use Rattle.lexical.proofs.Cases.{split, and-left, and-right, and-yes, and-no}
 use Rattle.lexical.proofs.Suffix.{suffix-in, suffix-out}
 
 -- where the run of a class that begins at an index of a text ends
@@ -92,6 +92,20 @@ all-eight f s i h =
     (one f 1 s (i + 6) (i + 7) (omega arith) (omega arith)
     ∙ ap (λ b. f (getD s (i + 6) 0) && b)
     (one f 0 s (i + 7) (i + 8) (omega arith) (omega arith) ∙ and-yes (f (getD s (i + 7) 0)))))))))
+
+-- ---- three tests for all bytes, or three for each of them
+-- no byte is another
+abbrev pub others : ℕ → List ℕ → Bool
+others mark s = all (λ b. not (eqb b mark)) s
+
+pub all-inner : (mark : ℕ) (s : List ℕ) → all (isInner mark) s ≡ (others mark s && (others (byte "\n") s && others (byte "\r") s))
+unfolding all
+all-inner mark [] = refl
+all-inner mark (x ∷ xs) =
+    split (eqb x mark) (λ h. simp h)
+    (λ h. split (eqb x (byte "\n")) (λ l. simp (h, l) (sym (and-no (others mark xs))))
+    (λ l. split (eqb x (byte "\r")) (λ r. simp (h, l, r) (sym (ap (λ b. others mark xs && b) (and-no (others (byte "\n") xs)) ∙ and-no (others mark xs))))
+    (λ r. simp (h, l, r) (all-inner mark xs))))
 
 -- ---- with a mark that is a byte of a line ending, only those are looked for
 ending-mark : (b : ℕ) → isInner (byte "\n") b ≡ not (isLineEndingByte b)

@@ -1,5 +1,7 @@
 // Lines of a text. LF, CR LF and CR end a line; there is one line more than there are line endings.
 ghost use mathlib.Core.Path.{_≡_};
+ghost use mathlib.Core.Bool.{not};
+ghost use lib.Dec.{eqb};
 ghost use Prim.Native.Nat.{_+_, _≤_};
 ghost use lib.ListN.{length, take, drop};
 ghost use Rattle.lexical.specs.Text.{run};
@@ -93,19 +95,27 @@ fn is_inner(b: u8, mark: u8) -> bool
     !((b == mark) | ((b == b'\n') | (b == b'\r')))
 }
 
-// Whether the eight bytes at an index are: one test for all of them.
+// Whether none of the eight bytes at an index is the mark: one test for all of them.
+fn are_other(bytes: &[u8], index: usize, mark: u8) -> bool
+    requires { ⌜ index + 8 ≤ length (now bytes) ⌝ }
+    ensures { λ r. ⌜ r ≡ all (λ b. not (eqb b mark)) (take 8 (drop index (now (bytes .entry)))) ⌝ }
+{
+    (bytes[index] != mark)
+        & ((bytes[index + 1] != mark)
+            & ((bytes[index + 2] != mark)
+                & ((bytes[index + 3] != mark)
+                    & ((bytes[index + 4] != mark)
+                        & ((bytes[index + 5] != mark)
+                            & ((bytes[index + 6] != mark) & (bytes[index + 7] != mark)))))))
+}
+
+// Whether the eight bytes at an index are neither a mark nor of a line ending.
 fn are_inner(bytes: &[u8], index: usize, mark: u8) -> bool
     requires { ⌜ index + 8 ≤ length (now bytes) ⌝ }
     ensures { λ r. ⌜ r ≡ all (isInner mark) (take 8 (drop index (now (bytes .entry)))) ⌝ }
 {
-    is_inner(bytes[index], mark)
-        & (is_inner(bytes[index + 1], mark)
-            & (is_inner(bytes[index + 2], mark)
-                & (is_inner(bytes[index + 3], mark)
-                    & (is_inner(bytes[index + 4], mark)
-                        & (is_inner(bytes[index + 5], mark)
-                            & (is_inner(bytes[index + 6], mark)
-                                & is_inner(bytes[index + 7], mark)))))))
+    are_other(bytes, index, mark)
+        & (are_other(bytes, index, b'\n') & are_other(bytes, index, b'\r'))
 }
 
 // Past the bytes at an index that are, eight by eight.
