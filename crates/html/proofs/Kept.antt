@@ -34,7 +34,7 @@ module _ (ρ : Rules) (k : ℕ) (s : List ℕ) where
   read-without t = ap (λ b. choose b (λ _. rawHtml ρ k s) (λ _. keeping k (rawHtml ρ 0 s))) t
 
 module _ (ρ : Rules) (text : List ℕ) (i k : ℕ) where
-  with-carry : ρ .t2 ≡ true → k ≤ 5 → inlineAnswer (length text) (runOf ρ Start k (drop i text)) ≡ inlineAt ρ text i k
+  pub with-carry : ρ .t2 ≡ true → k ≤ 5 → inlineAnswer (length text) (runOf ρ Start k (drop i text)) ≡ inlineAt ρ text i k
   unfolding inlineAt
   with-carry t h = ap (inlineAnswer (length text)) (start-is ρ (drop i text) k (omega arith) ∙ sym (read-with ρ k (drop i text) t))
 
