@@ -5,7 +5,7 @@ ghost use lib.ListN.{length, drop};
 ghost use Rattle.lexical.specs.Text.{pick};
 ghost use Rattle.rules.specs.Reading.{crate as ofCrate};
 ghost use Rattle.rules.specs.Search.{somewhere};
-ghost use Rattle.rules.specs.Refusal.{blankFollows};
+ghost use Rattle.rules.specs.Refusal.{blankFollows, inlineRefusal};
 ghost use Rattle.rules.specs.Scan.{inlineAt, inlineScan};
 ghost use Rattle.html.specs.Answer.{inlineOf, carryingOf};
 use crate::tokenizer::Inline;
@@ -51,6 +51,25 @@ fn has_blank_line(text: &[u8]) -> bool
         i = line_end(text, i + 1);
     }
     false
+}
+
+// The refusal of a text, an index and a carry. Where nothing is refused: 0.
+fn inline_refusal(text: &[u8], index: usize, carry: u8) -> u8
+    ensures { λ r. ⌜ r ≡ inlineRefusal (now (text .entry)) index carry ⌝ }
+{
+    if is_over_limit(text) {
+        return TOO_LONG;
+    }
+    if index > text.len() {
+        return WRONG_INDEX;
+    }
+    if carry > 5 {
+        return WRONG_CARRY;
+    }
+    if has_blank_line(text) {
+        return BLANK_LINE;
+    }
+    0
 }
 
 // The first where T2 is made, the second where it is left out.
@@ -103,29 +122,9 @@ pub fn inline_at(rules: Rules, text: &[u8], index: usize) -> Inline
 pub fn inline_scan(text: &[u8], index: usize, carry: u8) -> Inline
     ensures { λ r. ⌜ inlineOf r ≡ inlineScan ofCrate (now (text .entry)) index carry ⌝ }
 {
-    if is_over_limit(text) {
-        return Inline::Refused {
-            refusal: TOO_LONG,
-            carry,
-        };
-    }
-    if index > text.len() {
-        return Inline::Refused {
-            refusal: WRONG_INDEX,
-            carry,
-        };
-    }
-    if carry > 5 {
-        return Inline::Refused {
-            refusal: WRONG_CARRY,
-            carry,
-        };
-    }
-    if has_blank_line(text) {
-        return Inline::Refused {
-            refusal: BLANK_LINE,
-            carry,
-        };
+    let refusal = inline_refusal(text, index, carry);
+    if refusal != 0 {
+        return Inline::Refused { refusal, carry };
     }
     let all = Rules {
         f1: true,

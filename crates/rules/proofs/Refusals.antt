@@ -41,6 +41,14 @@ passed-front [] ds k h = refl
 passed-front (check true n ∷ cs) ds k h = clash (not (eqb n 0)) (and-left (not (eqb n 0)) (numbered cs) k) (ap not (eq-eqb n 0 h))
 passed-front (check false n ∷ cs) ds k h = passed-front cs ds (and-right (not (eqb n 0)) (numbered cs) k) h
 
+-- where nothing is refused, no test applies
+pub not-met : (cs ds : List Check) (b : Bool) (n : ℕ) → numbered cs ≡ true → eqb n 0 ≡ false → refusal (cs ++ (check b n ∷ ds)) ≡ 0 → b ≡ false
+unfolding refusal
+not-met [] ds true n k e h = clash (eqb n 0) (eq-eqb n 0 h) e
+not-met [] ds false n k e h = refl
+not-met (check true m ∷ cs) ds b n k e h = clash (not (eqb m 0)) (and-left (not (eqb m 0)) (numbered cs) k) (ap not (eq-eqb m 0 h))
+not-met (check false m ∷ cs) ds b n k e h = not-met cs ds b n (and-right (not (eqb m 0)) (numbered cs) k) e h
+
 -- ---- an entry that writes: the refusal of what it reads comes first; then the buffer is too short, or the output fits
 pub output-first : (n room : ℕ) (output : List ℕ) → (n ≡ 0 → ⊥) → outputRefusal n room output ≡ n
 unfolding outputRefusal refusal
@@ -64,38 +72,3 @@ module _ {A : Type 0} (refused : ℕ → A) (answer : A) where
 
   pub answers : (cs : List Check) → refusal cs ≡ 0 → decided cs ≡ answer
   answers cs h = rw h
-
-  -- four checks: each by the tests before it
-  module _ (a b c d : Bool) (l m n o : ℕ) where
-    abbrev fourth-on : List Check
-    fourth-on = check d o ∷ []
-
-    abbrev third-on : List Check
-    third-on = check c n ∷ fourth-on
-
-    abbrev second-on : List Check
-    second-on = check b m ∷ third-on
-
-    abbrev pub fourChecks : List Check
-    fourChecks = check a l ∷ second-on
-
-    pub by-first : eqb l 0 ≡ false → a ≡ true → decided fourChecks ≡ refused l
-    by-first e h = refuses fourChecks l e (applies a l second-on h)
-
-    pub by-second : eqb m 0 ≡ false → a ≡ false → b ≡ true → decided fourChecks ≡ refused m
-    by-second e x h = refuses fourChecks m e (passes a l second-on x ∙ applies b m third-on h)
-
-    from-third : a ≡ false → b ≡ false → refusal fourChecks ≡ refusal third-on
-    from-third x y = passes a l second-on x ∙ passes b m third-on y
-
-    pub by-third : eqb n 0 ≡ false → a ≡ false → b ≡ false → c ≡ true → decided fourChecks ≡ refused n
-    by-third e x y h = refuses fourChecks n e (from-third x y ∙ applies c n fourth-on h)
-
-    from-fourth : a ≡ false → b ≡ false → c ≡ false → refusal fourChecks ≡ refusal fourth-on
-    from-fourth x y z = from-third x y ∙ passes c n fourth-on z
-
-    pub by-fourth : eqb o 0 ≡ false → a ≡ false → b ≡ false → c ≡ false → d ≡ true → decided fourChecks ≡ refused o
-    by-fourth e x y z h = refuses fourChecks o e (from-fourth x y z ∙ applies d o [] h)
-
-    pub by-none : a ≡ false → b ≡ false → c ≡ false → d ≡ false → decided fourChecks ≡ answer
-    by-none x y z h = answers fourChecks (from-fourth x y z ∙ passes d o [] h ∙ no-more)
