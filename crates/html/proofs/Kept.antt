@@ -48,9 +48,14 @@ module _ (ρ : Rules) (text : List ℕ) (i k : ℕ) where
   abbrev answer : ℕ → InlineAnswer
   answer size = inlineAnswer (length text) (runOf ρ Start size (drop i text))
 
-  -- with T2 the size is the carry, without it 0
-  pub either-carry : (size : ℕ) → size ≡ pick (ρ .t2) k 0 → k ≤ 5 → pick (ρ .t2) (answer size) (carryingOf k (answer size)) ≡ inlineAt ρ text i k
-  either-carry size e h =
-      split (ρ .t2)
+  -- with T2 the size is the carry, without it 0; a is what the run from the size answers
+  pub either-carry : (size : ℕ) (a : InlineAnswer) → a ≡ answer size → size ≡ pick (ρ .t2) k 0 → k ≤ 5 → pick (ρ .t2) a (carryingOf k a) ≡ inlineAt ρ text i k
+  either-carry size a d e h =
+      ap (λ b. pick (ρ .t2) b (carryingOf k b)) d
+      ∙ split (ρ .t2)
       (λ t. ap (λ b. pick b (answer size) (carryingOf k (answer size))) t ∙ ap answer (e ∙ ap (λ b. pick b k 0) t) ∙ with-carry t h)
       (λ t. ap (λ b. pick b (answer size) (carryingOf k (answer size))) t ∙ ap (λ n. carryingOf k (answer n)) (e ∙ ap (λ b. pick b k 0) t) ∙ without-carry t)
+
+pub no-carry : (n : ℕ) (b : Bool) → n ≡ pick b n n
+no-carry n true = refl
+no-carry n false = refl

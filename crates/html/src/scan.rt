@@ -1,6 +1,6 @@
 // The inline scan: what is read and given, and what is refused.
 ghost use mathlib.Core.Path.{_≡_};
-ghost use Prim.Native.Nat.{_<_, _≤_};
+ghost use Prim.Native.Nat.{_<_};
 ghost use lib.ListN.{length, drop};
 ghost use Rattle.lexical.specs.Text.{pick};
 ghost use Rattle.rules.specs.Reading.{crate as ofCrate};
@@ -83,7 +83,7 @@ fn by_t2(rules: Rules, made: u8, otherwise: u8) -> u8
     }
 }
 
-// The answer, with the carry passed in where T2 is left out.
+// The answer, with the carry passed in where T2 is left out: without it the carry is neither read nor changed.
 fn keep(rules: Rules, answer: Inline, carry: u8) -> Inline
     ensures { λ r. ⌜ inlineOf r ≡ pick (rules .t2) (inlineOf answer) (carryingOf carry (inlineOf answer)) ⌝ }
 {
@@ -102,23 +102,14 @@ fn keep(rules: Rules, answer: Inline, carry: u8) -> Inline
     }
 }
 
-// The scan with no check. T2: the CDATA prefix is compared from the carry; without it the carry is neither read nor changed.
-fn scan(rules: Rules, text: &[u8], index: usize, carry: u8) -> Inline
-    requires { ⌜ carry ≤ 5 ⌝ }
-    ensures { λ r. ⌜ inlineOf r ≡ inlineAt rules (now (text .entry)) index carry ⌝ }
-{
-    let size = by_t2(rules, carry, 0);
-    keep(rules, run(rules, text, index, StateName::Start, size), carry)
-}
-
 // What begins at an index, in any reading and with carry 0. Past the end: none.
 pub fn inline_at(rules: Rules, text: &[u8], index: usize) -> Inline
     ensures { λ r. ⌜ inlineOf r ≡ inlineAt rules (now (text .entry)) index 0 ⌝ }
 {
-    scan(rules, text, index, 0)
+    keep(rules, run(rules, text, index, StateName::Start, 0), 0)
 }
 
-// The inline scan with all eight changes.
+// The inline scan with all eight changes. T2: the CDATA prefix is compared from the carry.
 pub fn inline_scan(text: &[u8], index: usize, carry: u8) -> Inline
     ensures { λ r. ⌜ inlineOf r ≡ inlineScan ofCrate (now (text .entry)) index carry ⌝ }
 {
@@ -136,5 +127,5 @@ pub fn inline_scan(text: &[u8], index: usize, carry: u8) -> Inline
         t1: true,
         t2: true,
     };
-    scan(all, text, index, carry)
+    keep(all, run(all, text, index, StateName::Start, carry), carry)
 }

@@ -6,6 +6,7 @@ use Rattle.rules.specs.Reading.{crate as ofCrate}
 use Rattle.rules.specs.Refusal.{tooLong, pastEnd, hasBlankLine, inlineRefusal}
 use Rattle.rules.specs.Scan.{refusedInline, inlineAt, inlineScan}
 use Rattle.rules.proofs.Refusals.{not-met}
+use Rattle.html.proofs.Kept.{either-carry}
 use borrow.Author.Needs.{needs}
 use Rattle.html.proofs.scan.inline_scan.Statement.{statement}
 use Rattle.html.proofs.scan.inline_scan.Tie as tie
@@ -29,11 +30,21 @@ inline-refusal-requires c κs = search needs
 returns : tie.Need-returns
 returns c = let a = c .before .before .before .args in sym (refuses (a .text .now) (a .index) (a .carry) _ (c .before .inline-refusal .ensures) (c .if1 .taken))
 
-scan-requires : tie.Need-scan-requires
-scan-requires c κs = let a = c .before .before .before .args in small (a .text .now) (a .index) (a .carry) _ (c .before .inline-refusal .ensures) (c .if1 .left)
+run-requires : tie.Need-run-requires
+run-requires c κs = search needs
+
+keep-requires : tie.Need-keep-requires
+keep-requires c κs = search needs
 
 returns-2 : tie.Need-returns-2
-returns-2 c = let a = c .before .before .before .before .args in c .scan .ensures ∙ sym (answers (a .text .now) (a .index) (a .carry) _ (c .before .before .inline-refusal .ensures) (c .before .if1 .left))
+returns-2 c = 
+    let a = c .before .before .before .before .before .args in
+    let e = c .before .before .before .inline-refusal .ensures in
+    let z = c .before .before .if1 .left in
+    c .keep .ensures
+    ∙ either-carry ofCrate (a .text .now) (a .index) (a .carry) (a .carry) _ (c .before .run .ensures) refl (small (a .text .now) (a .index) (a .carry) _ e z)
+    ∙ sym (answers (a .text .now) (a .index) (a .carry) _ e z)
 
 pub inline-scan-spec : {M : Type 1} → statement M
-inline-scan-spec = tie.close (tie.spec inline-refusal-requires returns scan-requires returns-2)
+inline-scan-spec =
+    tie.close (tie.spec inline-refusal-requires returns run-requires keep-requires returns-2)
