@@ -382,7 +382,7 @@ fn continuation_close() -> ContinuationName
 }
 
 // The function that the name spells, on the byte.
-fn continuation_step(rules: Rules, kind: Kind, name: ContinuationName, b: u8) -> ContinuationName
+pub fn continuation_step(rules: Rules, kind: Kind, name: ContinuationName, b: u8) -> ContinuationName
     ensures { λ r. ⌜ r ≡ nextOf rules kind name b ⌝ }
 {
     match name {
@@ -399,7 +399,7 @@ fn continuation_step(rules: Rules, kind: Kind, name: ContinuationName, b: u8) ->
 }
 
 // Whether a closer was met.
-fn is_close(name: ContinuationName) -> bool
+pub fn is_close(name: ContinuationName) -> bool
     ensures { λ r. ⌜ r ≡ isClose name ⌝ }
 {
     match name {
@@ -519,7 +519,7 @@ fn meets_raw_end_tag(line: &[u8]) -> bool
 }
 
 // Whether a line has the closer of its block.
-pub(crate) fn closes_line(rules: Rules, kind: Kind, line: &[u8]) -> bool
+pub fn closes_line(rules: Rules, kind: Kind, line: &[u8]) -> bool
     ensures { λ r. ⌜ r ≡ closes rules (kindNumber kind) (now (line .entry)) ⌝ }
 {
     match kind {

@@ -54,7 +54,7 @@ pub enum Inline {
 }
 
 // The state's function on the byte.
-fn step(rules: Rules, state: StateName, size: u8, b: u8) -> State
+pub fn step(rules: Rules, state: StateName, size: u8, b: u8) -> State
     ensures { λ r. ⌜ r ≡ stepOf rules state size b ⌝ }
 {
     match state {
