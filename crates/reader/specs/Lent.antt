@@ -6,6 +6,8 @@ use Rattle.html.specs.declared.tokenizer.StateName.{StateName}
 use Rattle.html.specs.declared.tokenizer.State.{State}
 use Rattle.html.specs.declared.tokenizer.State.the-variants as state
 use Rattle.flow.specs.ContinuationMachine.{nextOf}
+use Rattle.flow.specs.declared.html_flow.Kind.{Kind}
+use Rattle.flow.specs.declared.html_flow.ContinuationName.{ContinuationName}
 use Rattle.reader.specs.declared.html_text.Scanner.{Scanner}
 use Rattle.reader.specs.declared.html_text.Status.{Status}
 use Rattle.reader.specs.declared.html_text.Status.the-variants.{Going, Ok, Nok}
@@ -32,5 +34,8 @@ whileGoing Nok after before = before
 unfoldable pub scannerOf : Rules → Scanner → ℕ → Scanner
 scannerOf ρ s b = whileGoing (s .status) (takenOf ρ (s .state) (s .size) b) s
 
+abbrev pub line : Kind → ContinuationName → Line
+line κ s = record { kind = κ; name = s }
+
 unfoldable pub lineOf : Rules → Line → ℕ → Line
-lineOf ρ l b = record { kind = l .kind; name = nextOf ρ (l .kind) (l .name) b }
+lineOf ρ l b = line (l .kind) (nextOf ρ (l .kind) (l .name) b)
