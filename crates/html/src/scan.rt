@@ -84,7 +84,7 @@ fn by_t2(rules: Rules, made: u8, otherwise: u8) -> u8
 }
 
 // The answer, with the carry passed in where T2 is left out: without it the carry is neither read nor changed.
-fn keep(rules: Rules, answer: Inline, carry: u8) -> Inline
+pub fn keep(rules: Rules, answer: Inline, carry: u8) -> Inline
     ensures { λ r. ⌜ inlineOf r ≡ pick (rules .t2) (inlineOf answer) (carryingOf carry (inlineOf answer)) ⌝ }
 {
     match answer {

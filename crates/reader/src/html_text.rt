@@ -5,6 +5,7 @@ ghost use Rattle.rules.specs.Scan.{inlineAnswer, inlineAt};
 ghost use Rattle.html.specs.Answer.{inlineOf};
 ghost use Rattle.html.specs.TextMachine.{runOf};
 ghost use Rattle.reader.specs.Lent.{takenOf, scannerOf};
+use html::scan::keep;
 use html::tokenizer::Inline;
 use html::tokenizer::State;
 use html::tokenizer::StateName;
@@ -121,9 +122,13 @@ pub fn run(rules: Rules, text: &[u8], from: usize, start: StateName, carry: u8) 
     Inline::Missing { carry: size }
 }
 
-// What begins at an index, in any reading and with carry 0. Past the end: none.
+// What begins at an index, in any reading and with carry 0, by the lent step. Past the end: none. T2: without it the carry is not changed.
 pub fn inline_at(rules: Rules, text: &[u8], index: usize) -> Inline
     ensures { λ r. ⌜ inlineOf r ≡ inlineAt rules (now (text .entry)) index 0 ⌝ }
 {
-    run(rules, text, index, StateName::Start, 0)
+    let answer = run(rules, text, index, StateName::Start, 0);
+    if rules.t2 {
+        return answer;
+    }
+    keep(answer, 0)
 }
