@@ -5,7 +5,7 @@ ghost use Rattle.lexical.specs.Text.{first};
 ghost use Rattle.rules.specs.Reading.{crate as ofCrate};
 ghost use Rattle.rules.specs.Scan.{inlineScan};
 ghost use Rattle.html.specs.Answer.{inlineOf};
-ghost use Rattle.reader.specs.Moved.{movedOf};
+ghost use Rattle.reader.specs.Moved.{movedOf, turnedOf, turnedAt};
 use html::tokenizer::Inline;
 
 pub struct Reader<'a> {
@@ -72,5 +72,26 @@ pub fn past<'a>(reader: Reader<'a>, answer: Inline) -> Reader<'a>
     Reader {
         text: reader.text,
         index,
+    }
+}
+
+// What the scan at an index finds, where a reader that moves on then stands, and the byte there.
+pub struct Turn {
+    pub answer: Inline,
+    pub index: usize,
+    pub byte: u16,
+}
+
+// A reader at an index of a text scans and moves on. Whoever calls this one needs no walk.
+pub fn read_at(text: &[u8], index: usize, carry: u8) -> Turn
+    ensures { λ r. ⌜ turnedOf r ≡ turnedAt (now (text .entry)) index carry ⌝ }
+{
+    let here = at(new(text), index);
+    let answer = scan(here, carry);
+    let there = past(here, answer);
+    Turn {
+        answer,
+        index: there.index,
+        byte: byte(there),
     }
 }
