@@ -382,7 +382,12 @@ fn continuation_close() -> ContinuationName
 }
 
 // The function that the name spells, on the byte.
-pub fn continuation_step(rules: Rules, kind: Kind, name: ContinuationName, b: u8) -> ContinuationName
+pub fn continuation_step(
+    rules: Rules,
+    kind: Kind,
+    name: ContinuationName,
+    b: u8,
+) -> ContinuationName
     ensures { λ r. ⌜ r ≡ nextOf rules kind name b ⌝ }
 {
     match name {

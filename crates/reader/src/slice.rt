@@ -57,7 +57,10 @@ pub fn moved(index: usize, answer: Inline) -> usize
     match answer {
         Inline::Found { stop, carry: _ } => stop,
         Inline::Missing { carry: _ } => index,
-        Inline::Refused { refusal: _, carry: _ } => index,
+        Inline::Refused {
+            refusal: _,
+            carry: _,
+        } => index,
     }
 }
 

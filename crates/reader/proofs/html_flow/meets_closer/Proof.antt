@@ -39,7 +39,7 @@ loop-less c = search needs
 
 loop-again : tie.Need-loop-again Inv-loop μ-loop
 unfolding lineOf
-loop-again c = 
+loop-again c =
     let l = c .before .before .before .before in
     sym (turn _ _ _ _ _ _ (l .loop-test .taken) (sym (c .before .before .before .is-close .ensures) ∙ c .before .before .if1 .left) (ap (λ (t : Line). t .name) (c .stepped .ensures))) ∙ l .before .loop .inv
 

@@ -35,7 +35,7 @@ add-stop : tie.Need-add-stop Inv-loop μ-loop
 add-stop c = search needs
 
 returns : tie.Need-returns Inv-loop μ-loop
-returns c = 
+returns c =
     let l = c .before .before .before .before in
     let text = l .before .before .before .args .text .now in
     stop-is text (l .before .loop .index) (l .before .loop .size) (l .loop-test .taken)
@@ -45,7 +45,7 @@ enum-told-3 : tie.Need-enum-told-3 Inv-loop μ-loop
 enum-told-3 c = search needs
 
 returns-2 : tie.Need-returns-2 Inv-loop μ-loop
-returns-2 c = 
+returns-2 c =
     let l = c .before .before .before .before in
     let text = l .before .before .before .args .text .now in
     ap (inlineAnswer (length text)) (sym (lacking _ _ _ _ _ _ (l .loop-test .taken) (c .before .before .stepped .ensures) (c .enum-told3 .given .1)) ∙ l .before .loop .inv)
@@ -57,12 +57,12 @@ loop-less : tie.Need-loop-less Inv-loop μ-loop
 loop-less c = search needs
 
 loop-again : tie.Need-loop-again Inv-loop μ-loop
-loop-again c = 
+loop-again c =
     let l = c .before .before .before .before in
     sym (going _ _ _ _ _ _ (l .loop-test .taken) (c .before .before .stepped .ensures) (c .enum-told .given .1)) ∙ l .before .loop .inv
 
 returns-3 : tie.Need-returns-3 Inv-loop μ-loop
-returns-3 c = 
+returns-3 c =
     let text = c .before .before .before .args .text .now in
     ap (inlineAnswer (length text)) (sym (ended _ _ _ _ _ (c .loop-test .left)) ∙ c .before .loop .inv)
 
