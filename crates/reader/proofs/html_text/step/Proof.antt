@@ -15,7 +15,7 @@ use prog.Wp.{Heap, Calls, Loops, WpFn, Tables}
 use ghost.Atoms.{Atoms, sem}
 use contract.Monad.{Fun, fact}
 use contract.Running.{givenOf, tables, tablesOf}
-use types.Kit.{Given, ‵, raw, _⊛_, some, later, _$_, _∵_, !, qed, by, move, keep, drop, use1, split, join, pick, rewrite, fsplit, fsplit3, fjoin, fjoin3, feqI, suffices, frame, await, done}
+use types.Kit.{Given, ‵, raw, _⊛_, some, later, _$_, _∵_, !, qed, by, move, keep, drop, use1, split, join, pick, rewrite, fsplit, fsplit3, fjoin3, feqI, suffices, frame, await, done}
 use types.Part.{agg, whole, sub, look-in, store-in}
 use types.Run.{look, init, forget, stop, hop, fld, from, load, unit-lit, and-then, no-more, of-opd, assigns, land, returns, enter, alloc1, alloc0, params1, pass1, pass0, free1, free0}
 use types.SemTy.{Body}
@@ -23,11 +23,11 @@ use sound.WpLaws.{FmC, fmOf, WpFn-mono}
 use denote.RattleType.{owns}
 use denote.Laws.{Is, shows}
 use denote.Memory.{mem, cellAt}
-use denote.Plain.{uint-vals, uint-tells, uint-makes}
+use denote.Plain.{uint-vals, uint-tells}
 use denote.Builtin.{u8}
 use denote.Ref.{RefT, MutRef, ptr-vals, mut-tells}
 use denote.Signature.{plain}
-use denote.Steps.{only, opens, closes, owned, peeks, heard, nothing}
+use denote.Steps.{only, opens, closes, peeks, heard, nothing}
 use denote.Struct.Steps.{spelt}
 use denote.Struct.Laws as LL
 use denote.Enum.Laws as EL
@@ -48,6 +48,7 @@ use Rattle.reader.proofs.html_text.Status as O
 use Rattle.reader.proofs.html_text.Status.Laws as O′
 use Rattle.reader.specs.Lent.{scannerOf}
 use Rattle.reader.specs.declared.html_text.Scanner.{Scanner}
+use Rattle.reader.proofs.Lent.{vg, passed}
 use Rattle.reader.proofs.html_text.Scanner as T
 use Rattle.reader.proofs.html_text.Scanner.Laws as T′
 use Rattle.reader.proofs.html_text.next as next
@@ -69,12 +70,9 @@ stayed = (stay-ref (0 ∷ []) tt (plain (λ _. T.the-row)), (stay-none (λ _. G.
 abbrev Next : {M : Type 1} (𝓤 : URA M) (H : Heap 𝓤) (A : Atoms 𝓤) (at-mem : Memory → SProp 𝓤) (run : Routine → Fun 𝓤) → Contract 𝓤
 Next 𝓤 H A at-mem run = tripleOf 𝓤 H A next.signature (next.spec 𝓤 H A at-mem run)
 
--- the machine values of a Scanner and of the rules
+-- the machine value of a Scanner
 abbrev mach : Scanner → Val
 mach r = LL.val T.the-type T′.the-laws r
-
-abbrev vg : Rules → Val
-vg ρ = LL.val G.the-type G′.the-laws ρ
 
 -- what whoever holds a Scanner knows of its fields
 state-is : (r : Scanner) (v : Val) → Is T.the-row r (v ∷ []) → Is E.the-row (r .state) (EL.vals E.the-type E′.the-laws (r .state))
@@ -91,8 +89,12 @@ spelled : (r : Scanner) (v : Val) → Is T.the-row r (v ∷ []) → v ≡ mach r
 spelled r v is = ap only (LL.tells T.the-type T′.the-laws r (v ∷ []) is)
 
 module _ {M : Type 1} (𝓤 : URA M) (H : Heap 𝓤) (A : Atoms 𝓤) (W : Given 𝓤 H A) (at-mem : Memory → SProp 𝓤) (run : Routine → Fun 𝓤) (κ : Lft) (q : Share) (b o : ℕ) (γ : GName) (h : Scanner) (ρ : Rules) (n : ℕ) (ρ-is : Is G.the-row ρ (vg ρ ∷ [])) (n-fits : n < 2 ^ 8) where
+  -- the borrow at a Scanner
+  abbrev held : Scanner → RefT Scanner
+  held r = record { ptr = (b, o); name = γ; now = r }
+
   abbrev x : Arg
-  x = (record { ptr = (b, o); name = γ; now = h }, (ρ, (n, tt)))
+  x = (held h, (ρ, (n, tt)))
 
   abbrev at : List Val × (List Val × (List Val × Unit {0}))
   at = (vptr b o ∷ [], (vg ρ ∷ [], (vint w8 n ∷ [], tt)))
@@ -105,7 +107,7 @@ module _ {M : Type 1} (𝓤 : URA M) (H : Heap 𝓤) (A : Atoms 𝓤) (W : Given
       qed W (‵ (fobs γ (T.the-row .coded .code r)) ∷ ‵ (fbor κ (Body (mem T.the-row) b o γ)) ∷ ‵ (flft κ q) ∷ []) ∵
       suffices ! _ (ends-at 𝓤 H A f.ended stayed (f.clauses 𝓤 H A at-mem run) W (((κ, tt), (q, tt), tt, x, at), tt) vunit tt (r, (tt, (tt, tt))) (tt, (tt, (tt, tt)))) $ says ! e $ nothing ! $ move ! (3 ∷ 0 ∷ []) $ join ! $
       frame ! $ feqI ! (List Val) (vptr b o ∷ []) (vptr b o ∷ []) refl $ fjoin3 ! $
-      nothing ! $ owned ! u8 (Is u8) (uint-makes 𝓤 H A W w8) n _ (refl, n-fits) $ fjoin ! $ owned ! G.the-row (Is G.the-row) (LL.makes G.the-type G′.the-plain 𝓤 H A) ρ _ ρ-is $ fjoin ! $ move ! (1 ∷ 0 ∷ []) $ fjoin ! $
+      use1 W (‵ (owns (MutRef (named 0) κ T.the-row ∷ G.the-row ∷ u8 ∷ []) (held r, (ρ, (n, tt))) at)) (passed 𝓤 H A W ρ n ρ-is n-fits (MutRef (named 0) κ T.the-row) (held r) (vptr b o ∷ [])) $
       feqI ! (List Val) (vunit ∷ []) (vunit ∷ []) refl $ move ! (1 ∷ 0 ∷ []) $ done !
 
   -- what `next` is passed, and what it asks
@@ -114,8 +116,8 @@ module _ {M : Type 1} (𝓤 : URA M) (H : Heap 𝓤) (A : Atoms 𝓤) (W : Given
 
   asked : ent 𝓤 (sem 𝓤 H A (T.the-row .own h (mach h ∷ []))) (Next 𝓤 H A at-mem run .pre to)
   asked =
-      qed W (‵ (T.the-row .own h (mach h ∷ [])) ∷ []) ∵ nothing ! $ owned ! u8 (Is u8) (uint-makes 𝓤 H A W w8) n _ (refl, n-fits) $ fjoin ! $
-      owned ! G.the-row (Is G.the-row) (LL.makes G.the-type G′.the-plain 𝓤 H A) ρ _ ρ-is $ fjoin ! $ move ! (1 ∷ 0 ∷ []) $ fjoin ! $ nothing ! $ join ! $ frame ! $ done !
+      qed W (‵ (T.the-row .own h (mach h ∷ [])) ∷ []) ∵
+      use1 W (‵ (owns (T.the-row ∷ G.the-row ∷ u8 ∷ []) (h, (ρ, (n, tt))) (mach h ∷ [], (vg ρ ∷ [], (vint w8 n ∷ [], tt))))) (passed 𝓤 H A W ρ n ρ-is n-fits T.the-row h (mach h ∷ [])) $ nothing ! $ join ! $ frame ! $ done !
 
   -- of its `ensured`, the clause alone
   said : (r : Scanner) → ent 𝓤 (ensured 𝓤 H A next.ended (next.clauses 𝓤 H A at-mem run) tt (h, (ρ, (n, tt))) tt r) (fact 𝓤 (r ≡ scannerOf ρ h n))
