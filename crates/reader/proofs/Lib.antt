@@ -1,3 +1,4 @@
 pub mod Lent
 pub mod Turns
 pub mod Settled
+pub mod LentCall
