@@ -122,13 +122,9 @@ pub fn run(rules: Rules, text: &[u8], from: usize, start: StateName, carry: u8) 
     Inline::Missing { carry: size }
 }
 
-// What begins at an index, in any reading and with carry 0, by the lent step. Past the end: none. T2: without it the carry is not changed.
+// What begins at an index, in any reading and with carry 0, by the lent step. Past the end: none.
 pub fn inline_at(rules: Rules, text: &[u8], index: usize) -> Inline
     ensures { λ r. ⌜ inlineOf r ≡ inlineAt rules (now (text .entry)) index 0 ⌝ }
 {
-    let answer = run(rules, text, index, StateName::Start, 0);
-    if rules.t2 {
-        return answer;
-    }
-    keep(answer, 0)
+    keep(rules, run(rules, text, index, StateName::Start, 0), 0)
 }

@@ -23,7 +23,7 @@ is-close-requires : tie.Need-is-close-requires Inv-loop μ-loop
 is-close-requires c κs = search needs
 
 returns : tie.Need-returns Inv-loop μ-loop
-returns c = let l = c .before .before in sym (met _ _ _ _ _ (l .loop-test .taken) (sym (c .before .is-close .ensures) ∙ c .if1 .taken)) ∙ l .before .loop .inv
+returns c = let l = c .before .before in sym (met _ _ _ _ (sym (c .before .is-close .ensures) ∙ c .if1 .taken)) ∙ l .before .loop .inv
 
 shared-slice-read-stepped : tie.Need-shared-slice-read-stepped Inv-loop μ-loop
 shared-slice-read-stepped c = search needs
