@@ -1,5 +1,6 @@
--- The machine of the continuation states of html_flow.rt for kinds 2 to 5, and the raw end tag by its letters. It need not be believed: no public contract
--- cites it, and proofs/ContinuationMeans.antt and proofs/RawEnd.antt show that it finds the closers of the rules.
+-- The machine of the continuation states of html_flow.rt for kinds 2 to 5, and the raw end tag by its letters. It need not be believed: no entry's
+-- contract cites it, only those of single steps and of the runs in crates/reader, and proofs/ContinuationMeans.antt and proofs/RawEnd.antt show that it finds the
+-- closers of the rules.
 use Prim.Native.Nat.{ℕ, zero, suc}
 use mathlib.Core.Bool.{Bool, true, false, _&&_, _||_, not}
 use mathlib.Core.List.{List, [], _∷_}

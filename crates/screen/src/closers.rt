@@ -1,6 +1,5 @@
 // What is known of the closers that lie ahead in a paragraph. Where a comment, an instruction, a declaration or a CDATA section found no closer, none lies ahead,
-// and a later opening of its form need not be read: so no input makes withholding read the rest of a paragraph for each opening. Tags need no such memory: they
-// end at the next `<` outside quotation marks.
+// and a later opening of its form need not be read. That this keeps the cost linear is argued and measured, not proved (docs/DECISIONS.md, 24).
 ghost use mathlib.Core.Path.{_≡_};
 ghost use lib.ListN.{drop};
 ghost use Rattle.rules.specs.Search.{begins};
