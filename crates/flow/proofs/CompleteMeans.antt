@@ -1,27 +1,27 @@
 -- The run of the complete states says whether the rest of a line completes a tag and fills the line. A state that stays at a class of bytes passes the class;
 -- what follows a tag name or an attribute is shown by induction on the number of attributes that the grammar allows, and a value by the number of values.
 use mathlib.Core.Path.{_≡_, refl, sym, _∙_, ap}
-use mathlib.Core.Bool.{Bool, true, false, _&&_, _||_, not}
+use mathlib.Core.Bool.{Bool, true, false, _||_, not}
 use mathlib.Core.List.{List, [], _∷_}
-use Prim.Native.Nat.{ℕ, zero, suc, _<_, _≤_}
+use Prim.Native.Nat.{ℕ, zero, suc, _<_}
 use native.Mathlib.Omega.{arith}
 use lib.Dec.{eqb}
 use lib.ListN.{drop, length}
 use borrow.Author.Tests.{eqb-true, not-false, not-true}
 use Rattle.lexical.specs.Text.{byte, bytes, pick, first, run}
-use Rattle.lexical.specs.Byte.{isLetter, isDigit, isTagNameByte, isAttributeNameStart, isAttributeNameByte, isSpaceOrTab, isLineEndingByte, isWhitespace, isQuote, isValueExcluded}
-use Rattle.lexical.specs.Line.{isBlank, atLineEnd}
+use Rattle.lexical.specs.Byte.{isLetter, isDigit, isTagNameByte, isAttributeNameByte, isSpaceOrTab, isLineEndingByte, isWhitespace, isQuote, isValueExcluded}
+use Rattle.lexical.specs.Line.{isBlank}
 use Rattle.lexical.proofs.Cases.{split, clash, or-left, or-right, excluded}
-use Rattle.rules.specs.Search.{choose, begins, past, Left, left, nothing, orElse, exactly}
-use Rattle.rules.specs.Tag.{Grammar, blockTags, tagEnd, pastQuote, specification, startsName, isValueByte, value, values, attribute, attributes}
+use Rattle.rules.specs.Search.{choose, begins, past, Left, nothing, exactly}
+use Rattle.rules.specs.Tag.{Grammar, blockTags, tagEnd, pastQuote, specification, isValueByte, value, values, attribute, attributes}
 use Rattle.rules.specs.Block.{fillsLine}
 use Rattle.rules.specs.declared.Rules.{Rules}
 use Rattle.rules.proofs.Past.{past-none, past-cases, past-length}
-use Rattle.flow.specs.CompleteMachine.{isTagBreak, isNameStart, isValueEnd, endOf, afterOf, closingTagAfterOf, nameBeforeOf, nameAfterOf, nameOf, valueQuotedOf, valueQuotedAfterOf, valueUnquotedOf, valueBeforeOf, stepOf, accepts, follow, runOf}
+use Rattle.flow.specs.CompleteMachine.{isTagBreak, isNameStart, isValueEnd, endOf, afterOf, closingTagAfterOf, nameBeforeOf, nameAfterOf, nameOf, valueQuotedOf, valueQuotedAfterOf, valueUnquotedOf, valueBeforeOf, stepOf, accepts, runOf}
 use Rattle.flow.specs.declared.tokenizer.StateName.{StateName}
 use Rattle.flow.specs.declared.tokenizer.StateName.the-variants.{CompleteClosingTagAfter, CompleteAttributeNameBefore, CompleteAttributeName, CompleteAttributeNameAfter, CompleteAttributeValueBefore, CompleteAttributeValueQuoted, CompleteAttributeValueQuotedAfter, CompleteAttributeValueUnquoted, CompleteEnd, CompleteAfter}
 use Rattle.flow.specs.declared.tokenizer.State.{State}
-use Rattle.flow.specs.declared.tokenizer.State.the-variants.{Next, Ok, Nok}
+use Rattle.flow.specs.declared.tokenizer.State.the-variants.{Next, Nok}
 
 module _ (ρ : Rules) where
   abbrev g : Grammar

@@ -1,9 +1,9 @@
 -- The run over a line meets a closer exactly where the line contains it. A closer `c c >` is met by three states, by how many of its bytes were seen just before;
 -- with F1 the states of CDATA tell an odd run of `]` from an even one.
 use mathlib.Core.Path.{_≡_, refl, sym, _∙_, ap}
-use mathlib.Core.Bool.{Bool, true, false, _&&_, _||_, not}
+use mathlib.Core.Bool.{Bool, true, false, _&&_, not}
 use mathlib.Core.List.{List, [], _∷_}
-use Prim.Native.Nat.{ℕ, zero, suc, _%_}
+use Prim.Native.Nat.{ℕ, suc, _%_}
 use native.Mathlib.Omega.{arith}
 use lib.Dec.{eqb}
 use borrow.Author.Tests.{eqb-true, eq-eqb, ne-eqb}
@@ -12,7 +12,7 @@ use Rattle.lexical.proofs.Cases.{split, and-yes, and-no}
 use Rattle.rules.specs.Search.{choose, begins, somewhere}
 use Rattle.rules.specs.Block.{closesEven, closes}
 use Rattle.rules.specs.declared.Rules.{Rules}
-use Rattle.flow.specs.ContinuationMachine.{continuationOf, commentInsideOf, cdataInsideOf, stays, declarationInsideOf, nextOf, isClose, meetsOf}
+use Rattle.flow.specs.ContinuationMachine.{continuationOf, commentInsideOf, cdataInsideOf, declarationInsideOf, nextOf, isClose, meetsOf}
 use Rattle.flow.specs.declared.html_flow.Kind.{Kind}
 use Rattle.flow.specs.declared.html_flow.Kind.the-variants.{Comment, Instruction, Declaration, Cdata}
 use Rattle.flow.specs.declared.html_flow.ContinuationName.{ContinuationName}

@@ -3,24 +3,24 @@
 use mathlib.Core.Path.{_≡_, refl, sym, _∙_, ap}
 use mathlib.Core.Bool.{Bool, true, false, _&&_, _||_, not}
 use mathlib.Core.List.{List, [], _∷_, _++_}
-use Prim.Native.Nat.{ℕ, zero, suc, _+_, _<_, _≤_}
+use Prim.Native.Nat.{ℕ, suc, _+_, _<_, _≤_}
 use native.Mathlib.Omega.{arith}
 use lib.Dec.{eqb}
-use lib.ListN.{length, take, drop, length-drop}
+use lib.ListN.{length, drop, length-drop}
 use borrow.Author.Tests.{eqb-true}
 use Rattle.lexical.specs.Text.{byte, bytes, pick, first, run}
-use Rattle.lexical.specs.Byte.{isLetter, isDigit, isTagNameByte, isSpaceOrTab, isLineEndingByte, isWhitespace}
+use Rattle.lexical.specs.Byte.{isLetter, isTagNameByte, isSpaceOrTab, isLineEndingByte, isWhitespace}
 use Rattle.lexical.specs.Line.{atLineEnd}
-use Rattle.lexical.specs.Name.{isMember, sameBytes, blockNames, rawNames, isBlockName, isRawName}
+use Rattle.lexical.specs.Name.{isBlockName, isRawName}
 use Rattle.lexical.proofs.Cases.{split, clash, and-left, or-left, or-right, excluded, and-yes, and-no, or-no, letter-byte}
 use Rattle.lexical.proofs.RawNames.{raw-first, block-first}
-use Rattle.rules.specs.Search.{choose, begins, past, Left, left, nothing, exactly}
-use Rattle.rules.specs.Tag.{blockTags, tagEnd, attributes, openTag, closingTag}
+use Rattle.rules.specs.Search.{choose, begins, past, exactly}
+use Rattle.rules.specs.Tag.{blockTags, attributes, openTag, closingTag}
 use Rattle.rules.specs.Block.{nameOf, afterName, nameEnds, startsRaw, basicName, startsBasic, fillsLine, startsComplete, mayStart, kindAt}
 use Rattle.rules.specs.declared.Rules.{Rules}
 use Rattle.rules.proofs.Past.{past-run, past-none}
 use Rattle.flow.specs.CompleteMachine.{isTagBreak, endOf, nameBeforeOf, valueQuotedAfterOf, runOf}
-use Rattle.flow.proofs.CompleteMeans.{open-is, close-is}
+use Rattle.flow.proofs.CompleteMeans.{open-is}
 use Rattle.flow.specs.OpenMachine.{isNameBreak, selfClosingOf, completesOf, completeOf, tagNameOf, declarationOpenOf, tagCloseStartOf, openOf}
 
 -- ---- names that begin with no letter

@@ -6,14 +6,14 @@ use Prim.Native.Nat.{ℕ, suc, _+_, _<_, _≤_}
 use native.Mathlib.Omega.{arith}
 use lib.Dec.{eqb, leb}
 use lib.ListN.{length, getD, take, drop}
-use borrow.Author.Tests.{eqb-true, eq-eqb, ne-eqb, lt-leb, le-leb}
+use borrow.Author.Tests.{eqb-true, ne-eqb, lt-leb, le-leb}
 use Rattle.lexical.specs.Text.{byte, bytes, none, first, run}
-use Rattle.lexical.specs.Byte.{isLetter, isSpaceOrTab, isLineEndingByte, isWhitespace}
+use Rattle.lexical.specs.Byte.{isLetter, isSpaceOrTab, isLineEndingByte}
 use Rattle.lexical.specs.Name.{cdataPrefix}
-use Rattle.lexical.specs.Line.{lineLength, atLineEnd}
+use Rattle.lexical.specs.Line.{lineLength}
 use Rattle.lexical.proofs.Cases.{split, excluded, and-yes}
 use Rattle.lexical.proofs.Suffix.{suffix-in, suffix-out, first-in}
-use Rattle.rules.specs.Search.{choose, begins, past, exactly}
+use Rattle.rules.specs.Search.{choose, begins}
 use Rattle.rules.specs.Tag.{blockTags, attributes}
 use Rattle.rules.specs.Block.{nameOf, afterName, fillsLine, mayStart, kindAt, kindOf, indentation}
 use Rattle.rules.specs.Lines.{Line, line}

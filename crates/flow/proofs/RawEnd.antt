@@ -1,24 +1,24 @@
 -- A raw end tag by its letters. The recursion takes letters, at most eight, and asks at `>` whether they are a raw name; a raw name has at most eight bytes,
 -- all letters, so that this is the same as asking of the whole tag name whether it is one and `>` follows.
 use mathlib.Core.Path.{_≡_, refl, sym, _∙_, ap}
-use mathlib.Core.Bool.{Bool, true, false, _&&_, _||_, not}
-use mathlib.Core.List.{List, [], _∷_, map}
+use mathlib.Core.Bool.{Bool, true, false, _&&_}
+use mathlib.Core.List.{List, [], _∷_}
 use Prim.Native.Nat.{ℕ, zero, suc, _+_, _-_, _<_, _≤_}
 use native.Mathlib.Omega.{arith}
-use lib.Dec.{eqb, leb}
-use lib.ListN.{length, getD, take, drop, length-map}
+use lib.Dec.{eqb}
+use lib.ListN.{length, getD, take, drop}
 use lib.Seq.{drop-drop, getD-take, getD-drop, length-take-le}
 use Rattle.lexical.proofs.Run.{run-length}
-use borrow.Author.Tests.{eq-eqb, ne-eqb, eqb-true, not-true}
+use borrow.Author.Tests.{ne-eqb, eqb-true, not-true}
 use Rattle.lexical.specs.Text.{byte, bytes, first, run}
-use Rattle.lexical.specs.Byte.{within, isLetter, isDigit, isTagNameByte, isLineEndingByte, lower}
+use Rattle.lexical.specs.Byte.{isLetter, isTagNameByte, isLineEndingByte}
 use Rattle.lexical.specs.Line.{isInner}
-use Rattle.lexical.specs.Name.{all, rawNames, sameBytes, isMember, isRawName}
-use Rattle.lexical.proofs.Cases.{split, clash, and-left, and-right, or-left, or-right, and-no, and-yes, letter-byte}
+use Rattle.lexical.specs.Name.{isRawName}
+use Rattle.lexical.proofs.Cases.{split, clash, or-left, and-no, and-yes, letter-byte}
 use Rattle.lexical.proofs.RawNames.{raw-letters, raw-length}
 use Rattle.lexical.proofs.Table.{all-at}
 use Rattle.lexical.proofs.Suffix.{suffix-in, suffix-out, first-in, first-out}
-use Rattle.rules.specs.Search.{choose, begins, somewhere}
+use Rattle.rules.specs.Search.{begins, somewhere}
 use Rattle.rules.proofs.Past.{somewhere-behind}
 use Rattle.rules.specs.Block.{nameOf, afterName, isRawEnd}
 use Rattle.flow.specs.ContinuationMachine.{rawEndOf}

@@ -2,7 +2,7 @@
 -- proofs/OpenMeans.antt shows that it is the kind of the rules.
 use Prim.Native.Nat.{ℕ, suc}
 use mathlib.Core.Bool.{Bool, true, false, _&&_, _||_, not}
-use mathlib.Core.List.{List, [], _∷_}
+use mathlib.Core.List.{List}
 use lib.ListN.{drop, length}
 use Rattle.lexical.specs.Text.{bytes, first}
 use Rattle.lexical.specs.Byte.{isLetter, isSpaceOrTab, isWhitespace}

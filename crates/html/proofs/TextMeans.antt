@@ -1,28 +1,27 @@
 -- The run of the machine from its start gives what the rules say of inline raw HTML. A closer `c c >` is found by three states, by how many of its bytes were
 -- seen just before; the other states follow the openings byte by byte, and what the other alternatives say of an opening computes to nothing.
 use mathlib.Core.Path.{_≡_, refl, sym, _∙_, ap}
-use mathlib.Core.Bool.{Bool, true, false, _&&_, _||_}
+use mathlib.Core.Bool.{true, false}
 use mathlib.Core.List.{List, [], _∷_, _++_}
-use Prim.Native.Nat.{ℕ, zero, suc, _+_, _<_, _≤_}
+use Prim.Native.Nat.{ℕ, suc, _+_, _<_}
 use native.Mathlib.Numerals.{add-one}
 use native.Mathlib.Omega.{arith}
-use lib.Dec.{eqb, leb}
-use lib.ListN.{length, getD, drop}
+use lib.Dec.{eqb}
+use lib.ListN.{length, drop}
 use lib.Seq.{drop-cons}
 use borrow.Author.Tests.{lt-leb, eqb-true, eqb-false}
 use Rattle.lexical.specs.Text.{byte, bytes, pick, first}
 use Rattle.lexical.specs.Byte.{isLetter}
 use Rattle.lexical.specs.Name.{cdataPrefix}
-use Rattle.lexical.proofs.Cases.{split, clash, excluded}
-use Rattle.rules.specs.Search.{choose, begins, Left, left, nothing, orElse, throughFirst}
+use Rattle.lexical.proofs.Cases.{split}
+use Rattle.rules.specs.Search.{choose, Left, left, nothing, orElse, throughFirst}
 use Rattle.rules.specs.Tag.{inlineTags, openTag, closingTag}
-use Rattle.rules.specs.Inline.{comment, instruction, declaration, htmlTag, Prefix, whole, letters, prefix, Read, takes, lacks, carrying, cdataBody, rawHtml}
+use Rattle.rules.specs.Inline.{comment, instruction, declaration, htmlTag, whole, letters, prefix, lacks, carrying, cdataBody, rawHtml}
 use Rattle.rules.specs.declared.Rules.{Rules}
 use Rattle.rules.proofs.Comment.{comment-is}
-use Rattle.html.specs.TextMachine.{stepOf, follow, runOf, endOf, instructionOf, instructionCloseOf, declarationOf, startOf, openOf, tagCloseStartOf, declarationOpenOf, commentOpenInsideOf, cdataCounted, cdataOpenInsideOf, commentOf, commentCloseOf, commentEndOf, cdataOf, cdataCloseOf, cdataEndOf}
+use Rattle.html.specs.TextMachine.{stepOf, runOf, endOf, instructionOf, instructionCloseOf, declarationOf, startOf, openOf, tagCloseStartOf, declarationOpenOf, commentOpenInsideOf, cdataCounted, cdataOpenInsideOf, commentOf, commentCloseOf, commentEndOf, cdataOf, cdataCloseOf, cdataEndOf}
 use Rattle.html.specs.declared.tokenizer.StateName.{StateName}
-use Rattle.html.specs.declared.tokenizer.StateName.the-variants.{Start, Open, DeclarationOpen, CommentOpenInside, Comment, CommentClose, CommentEnd, CdataOpenInside, Cdata, CdataClose, CdataEnd, Declaration, Instruction, InstructionClose, TagCloseStart, TagClose, TagOpen}
-use Rattle.html.specs.declared.tokenizer.State.{State}
+use Rattle.html.specs.declared.tokenizer.StateName.the-variants.{Start, Open, DeclarationOpen, CommentOpenInside, Comment, CommentClose, CommentEnd, CdataOpenInside, Cdata, CdataClose, CdataEnd, Declaration, Instruction, InstructionClose, TagCloseStart}
 use Rattle.html.specs.declared.tokenizer.State.the-variants.{Next, Ok, Nok}
 use Rattle.html.proofs.TextTags.{open-tag-is, close-tag-is}
 

@@ -3,7 +3,7 @@
 use mathlib.Core.Path.{_≡_, refl, sym, _∙_, ap}
 use mathlib.Core.Bool.{Bool, true, false, _&&_, _||_, not}
 use mathlib.Core.List.{List, [], _∷_}
-use Prim.Native.Nat.{ℕ, zero, suc, _+_, _<_, _≤_}
+use Prim.Native.Nat.{ℕ, zero, suc, _<_, _≤_}
 use native.Mathlib.Omega.{arith}
 use lib.Dec.{eqb}
 use lib.ListN.{drop, length}
@@ -11,16 +11,16 @@ use borrow.Author.Tests.{eqb-true, not-false, not-true}
 use Rattle.lexical.specs.Text.{byte, bytes, pick, first}
 use Rattle.lexical.specs.Byte.{isLetter, isDigit, isTagNameByte, isAttributeNameStart, isAttributeNameByte, isSpaceOrTab, isLineEndingByte, isWhitespace, isQuote, isValueExcluded}
 use Rattle.lexical.proofs.Cases.{split, clash, or-left, or-right, excluded, or-no}
-use Rattle.rules.specs.Search.{choose, begins, past, Left, left, nothing, orElse, exactly}
+use Rattle.rules.specs.Search.{choose, begins, past, Left, exactly}
 use Rattle.rules.specs.Tag.{Grammar, inlineTags, tagEnd, pastQuote, specification, startsName, isValueByte, value, values, attribute, attributes}
-use Rattle.rules.specs.Inline.{Read, takes, lacks, carrying}
+use Rattle.rules.specs.Inline.{carrying}
 use Rattle.rules.specs.declared.Rules.{Rules}
 use Rattle.rules.proofs.Past.{past-none, past-cases, past-length}
-use Rattle.html.specs.TextMachine.{isTagBreak, isValueEnd, spaced, stepOf, follow, runOf, endOf, tagCloseOf, tagCloseBetweenOf, tagOpenOf, tagOpenBetweenOf, attributeNameOf, attributeNameAfterOf, valueBeforeOf, valueQuotedOf, valueQuotedAfterOf, valueUnquotedOf}
+use Rattle.html.specs.TextMachine.{isTagBreak, isValueEnd, spaced, stepOf, runOf, endOf, tagCloseOf, tagCloseBetweenOf, tagOpenOf, tagOpenBetweenOf, attributeNameOf, attributeNameAfterOf, valueBeforeOf, valueQuotedOf, valueQuotedAfterOf, valueUnquotedOf}
 use Rattle.html.specs.declared.tokenizer.StateName.{StateName}
 use Rattle.html.specs.declared.tokenizer.StateName.the-variants.{TagClose, TagCloseBetween, TagOpen, TagOpenBetween, TagOpenAttributeName, TagOpenAttributeNameAfter, TagOpenAttributeValueBefore, TagOpenAttributeValueQuoted, TagOpenAttributeValueQuotedAfter, TagOpenAttributeValueUnquoted, End}
 use Rattle.html.specs.declared.tokenizer.State.{State}
-use Rattle.html.specs.declared.tokenizer.State.the-variants.{Next, Ok, Nok}
+use Rattle.html.specs.declared.tokenizer.State.the-variants.{Next, Nok}
 
 -- the two tests for whitespace are one
 spaced-is : (b : ℕ) (stay go : State) → spaced b stay go ≡ pick (isWhitespace b) stay go

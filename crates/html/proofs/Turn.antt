@@ -1,12 +1,12 @@
 -- One turn of the run over a text, at an index.
-use mathlib.Core.Path.{_≡_, refl, sym, _∙_, ap}
-use mathlib.Core.List.{List, []}
+use mathlib.Core.Path.{_≡_, ap}
+use mathlib.Core.List.{List}
 use Prim.Native.Nat.{ℕ, _+_, _-_, _<_, _≤_}
 use native.Mathlib.Omega.{arith}
 use lib.ListN.{length, getD, drop, length-drop}
 use Rattle.lexical.proofs.Suffix.{suffix-in, suffix-out}
-use Rattle.rules.specs.Inline.{Read, takes, lacks}
-use Rattle.rules.specs.Scan.{InlineAnswer, foundInline, inlineAnswer}
+use Rattle.rules.specs.Inline.{takes, lacks}
+use Rattle.rules.specs.Scan.{foundInline, inlineAnswer}
 use Rattle.rules.specs.declared.Rules.{Rules}
 use Rattle.html.specs.TextMachine.{stepOf, follow, runOf}
 use Rattle.html.specs.declared.tokenizer.StateName.{StateName}

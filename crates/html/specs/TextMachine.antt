@@ -1,7 +1,7 @@
 -- The machine of html_text.rt: what each state does with a byte, and the run over what is left of a text. It need not be believed: no entry's contract
 -- cites it, only those of single steps and of the runs in crates/reader, and proofs/TextMeans.antt shows that the run gives what the rules say.
-use Prim.Native.Nat.{ℕ, suc, _+_}
-use mathlib.Core.Bool.{Bool, true, false, _&&_, _||_}
+use Prim.Native.Nat.{ℕ, _+_}
+use mathlib.Core.Bool.{Bool, _&&_, _||_}
 use mathlib.Core.List.{List, [], _∷_}
 use lib.Dec.{eqb, leb}
 use lib.ListN.{drop}

@@ -1,16 +1,15 @@
 -- How large a point of a text can be: its index is the index, its line at most one more, its column at most four for each byte and one. So no sum wraps
 -- in a text of any size that memory holds. By induction on the index: one byte adds at most one line or four columns.
-use mathlib.Core.Path.{_≡_, refl, sym, _∙_, ap, subst}
-use mathlib.Core.Bool.{Bool, true, false}
-use mathlib.Core.List.{List, [], _∷_}
-use Prim.Native.Nat.{ℕ, zero, suc, _+_, _*_, _%_, _^_, _<_, _≤_}
+use mathlib.Core.Path.{_≡_, refl}
+use mathlib.Core.List.{List}
+use Prim.Native.Nat.{ℕ, zero, suc, _+_, _*_, _^_, _<_, _≤_}
 use native.Mathlib.Numerals.{add-one}
 use native.Mathlib.Omega.{arith}
 use lib.Dec.{eqb}
 use lib.ListN.{length, drop}
 use Rattle.lexical.specs.Text.{byte, first}
 use Rattle.lexical.specs.Line.{endsLine}
-use Rattle.lexical.specs.Point.{plus, tabReadings, nextLine, nextByte, skipByte, passed, pointAt}
+use Rattle.lexical.specs.Point.{tabReadings, nextLine, nextByte, skipByte, passed, pointAt}
 use Rattle.lexical.specs.declared.event.Point.{Point}
 use Rattle.lexical.proofs.Cases.{split}
 use Rattle.lexical.proofs.Moves.{point-start, point-next}

@@ -1,7 +1,6 @@
 -- Laws of points: what moving does at an index of a text, by the byte there and the one after it.
 use mathlib.Core.Path.{_≡_, refl, sym, _∙_, ap}
-use mathlib.Core.Bool.{Bool, true, false}
-use mathlib.Core.List.{List, [], _∷_}
+use mathlib.Core.List.{List}
 use Prim.Native.Nat.{ℕ, zero, suc, _+_, _-_, _<_, _≤_}
 use native.Mathlib.Nat.{add-zero, zero-add, suc-add}
 use native.Mathlib.Omega.{arith}
@@ -12,7 +11,6 @@ use Rattle.lexical.specs.Text.{byte, pick, first}
 use Rattle.lexical.specs.Line.{endsLine}
 use Rattle.lexical.specs.Point.{tabReadings, tabRead, actionAt, nextLine, nextByte, skipByte, passed, movedBy, start, pointAt}
 use Rattle.lexical.specs.declared.event.Point.{Point}
-use Rattle.lexical.specs.declared.tokenizer.ByteAction.{ByteAction}
 use Rattle.lexical.specs.declared.tokenizer.ByteAction.the-variants.{Normal, Ignore, Insert, End}
 use Rattle.lexical.proofs.Cases.{split}
 use Rattle.lexical.proofs.Suffix.{suffix-in, suffix-out}

@@ -1,6 +1,6 @@
 -- Raw names, letter case ignored, are letters, at most eight: one computed test over the list, and what it says of a name that is a member.
-use mathlib.Core.Path.{_≡_, refl, sym, _∙_, ap}
-use mathlib.Core.Bool.{Bool, true, false, _&&_, _||_}
+use mathlib.Core.Path.{_≡_, refl, _∙_, ap}
+use mathlib.Core.Bool.{Bool, true, false, _&&_}
 use mathlib.Core.List.{List, [], _∷_, map}
 use Prim.Native.Nat.{ℕ, _≤_}
 use lib.Dec.{leb}

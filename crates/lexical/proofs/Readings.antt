@@ -1,16 +1,15 @@
 -- A byte is passed by its readings: one reading after the other leads to the point past the byte. Only a tab is read more than once; each of its readings
 -- but the last moves the column by one, so that one reading fewer is left, and the last moves the index.
 use mathlib.Core.Path.{_≡_, refl, sym, _∙_, ap}
-use mathlib.Core.Bool.{Bool, true, false, _&&_, _||_, not}
-use mathlib.Core.List.{List, [], _∷_}
-use Prim.Native.Nat.{ℕ, zero, suc, _+_, _-_, _*_, _%_, _^_, _<_, _≤_}
+use mathlib.Core.Bool.{false}
+use mathlib.Core.List.{List, _∷_}
+use Prim.Native.Nat.{ℕ, zero, suc, _+_, _-_, _^_, _<_, _≤_}
 use native.Mathlib.Omega.{arith}
 use lib.Dec.{eqb}
-use lib.ListN.{length, drop}
-use borrow.Author.Tests.{eq-eqb, ne-eqb, eqb-true, eqb-false}
-use Rattle.lexical.specs.Text.{byte, pick, first}
+use borrow.Author.Tests.{ne-eqb, eqb-true}
+use Rattle.lexical.specs.Text.{byte, first}
 use Rattle.lexical.specs.Line.{endsLine}
-use Rattle.lexical.specs.Point.{plus, point, tabReadings, tabRead, actionAt, nextLine, nextByte, skipByte, nextReading, moved, passed, readings, readOn}
+use Rattle.lexical.specs.Point.{plus, point, tabReadings, tabRead, actionAt, nextByte, nextReading, moved, passed, readings, readOn}
 use Rattle.lexical.specs.declared.event.Point.{Point}
 use Rattle.lexical.proofs.Cases.{split}
 

@@ -1,6 +1,6 @@
 -- Byte classes, in the words of CommonMark 0.31.2.
 use Prim.Native.Nat.{ℕ, _+_}
-use mathlib.Core.Bool.{Bool, _&&_, _||_, not}
+use mathlib.Core.Bool.{Bool, _&&_, _||_}
 use lib.Dec.{leb, eqb}
 use Rattle.lexical.specs.Text.{byte, pick}
 

@@ -1,10 +1,8 @@
 -- Points: how reading moves them, from 01's paragraph on tokenizer.rs. A line, a column or a count of readings is a `usize`, whose sums are modulo 2 ^ 64.
 use Prim.Native.Nat.{ℕ, zero, suc, _+_, _-_, _%_, _^_}
-use mathlib.Core.Bool.{Bool, true, false}
 use mathlib.Core.List.{List, [], _∷_}
 use lib.Dec.{eqb}
-use lib.ListN.{drop}
-use Rattle.lexical.specs.Text.{byte, pick, none, first}
+use Rattle.lexical.specs.Text.{byte, pick, first}
 use Rattle.lexical.specs.Line.{endsLine}
 use Rattle.lexical.specs.declared.event.Point.{Point}
 use Rattle.lexical.specs.declared.tokenizer.ByteAction.{ByteAction}

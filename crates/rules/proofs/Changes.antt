@@ -5,20 +5,20 @@ use mathlib.Core.Bool.{Bool, true, false, _&&_, _||_, not}
 use mathlib.Core.List.{List, [], _∷_}
 use Prim.Native.Nat.{ℕ}
 use lib.Dec.{leb, eqb}
-use lib.ListN.{length, drop}
-use Rattle.lexical.specs.Text.{byte, bytes, first}
+use lib.ListN.{drop}
+use Rattle.lexical.specs.Text.{bytes, first}
 use Rattle.lexical.specs.Byte.{isLetter}
 use Rattle.lexical.specs.Name.{isRawName}
 use Rattle.lexical.proofs.Cases.{split, clash, and-left, and-right}
 use Rattle.rules.specs.Reading.{Change, F1, F2, F3, F4, F5, F6, T1, T2, crate, standard, without}
 use Rattle.rules.specs.Search.{choose, begins, Left, left, nothing}
 use Rattle.rules.specs.Tag.{blockTags, openTag, closingTag}
-use Rattle.rules.specs.Inline.{Read, takes, lacks, carrying, keeping, htmlTag, rawHtml, readInline}
-use Rattle.rules.specs.Lines.{Line, isLazy, isInterrupt}
-use Rattle.rules.specs.Block.{nameOf, startsRaw, startsBasic, fillsLine, startsComplete, mayStart, kindAt, indentation, kindOf, closes, Extent, extent, oneMore, endsBefore, goesOn, extentOf}
+use Rattle.rules.specs.Inline.{carrying, keeping, htmlTag, rawHtml, readInline}
+use Rattle.rules.specs.Lines.{Line, isInterrupt}
+use Rattle.rules.specs.Block.{nameOf, startsRaw, startsBasic, fillsLine, startsComplete, mayStart, kindAt, indentation, kindOf, closes, goesOn, extentOf}
 use Rattle.rules.specs.Refusal.{inlineRefusal, blockRefusal}
-use Rattle.rules.specs.Scan.{InlineAnswer, inlineAt, refuseInline, inlineScan, BlockAnswer, foundBlock, noBlock, blockAnswer, blockOf, linesAt, blockAt, refuseBlock, blockScan}
-use Rattle.rules.specs.Changes.{Spares, Unchanged, NoneApplies}
+use Rattle.rules.specs.Scan.{inlineAt, inlineScan, BlockAnswer, foundBlock, noBlock, blockAnswer, blockOf, linesAt, blockAt, blockScan}
+use Rattle.rules.specs.Changes.{Unchanged, NoneApplies}
 use Rattle.rules.specs.declared.Rules.{Rules}
 use Rattle.rules.proofs.Complete.{open-grows, open-falls}
 

@@ -1,6 +1,6 @@
 -- The standard's three alternatives of a comment come to one rule: `<!--`, and the first `-->` that begins at or after the opening's third byte.
-use mathlib.Core.Path.{_≡_, refl, sym, _∙_}
-use mathlib.Core.Bool.{Bool, true, false, _&&_}
+use mathlib.Core.Path.{_≡_, refl}
+use mathlib.Core.Bool.{true, false}
 use mathlib.Core.List.{List, [], _∷_, _++_}
 use Prim.Native.Nat.{ℕ}
 use lib.Dec.{eqb}
@@ -8,7 +8,7 @@ use lib.ListN.{length, drop}
 use borrow.Author.Tests.{eqb-true}
 use Rattle.lexical.specs.Text.{bytes}
 use Rattle.lexical.proofs.Cases.{split, clash, and-left, and-right}
-use Rattle.rules.specs.Search.{choose, begins, Left, left, nothing, throughFirst}
+use Rattle.rules.specs.Search.{choose, begins, nothing, throughFirst}
 use Rattle.rules.specs.Inline.{comment}
 
 -- a text that begins with p is p and the rest

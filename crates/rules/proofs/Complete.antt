@@ -1,21 +1,20 @@
 -- Complete open tags in two readings. A tag that the standard takes is taken without F4 too: the other changes only admit more. A tag that is taken without F2
 -- and without F5 is taken by the standard: no name begins with a digit and no further value follows, and where a value without `/` ends at a `/`, the tag's
 -- end must follow, so that the standard's longer value ends at the same `>`.
-use mathlib.Core.Path.{_≡_, refl, sym, _∙_}
-use mathlib.Core.Bool.{Bool, true, false, _&&_, _||_, not}
+use mathlib.Core.Path.{_≡_, refl}
+use mathlib.Core.Bool.{Bool, true, false, _&&_, not}
 use mathlib.Core.List.{List, [], _∷_}
-use Prim.Native.Nat.{ℕ, zero, suc, _≤_}
+use Prim.Native.Nat.{ℕ, zero, suc}
 use lib.Dec.{eqb}
 use lib.ListN.{drop, length}
 use borrow.Author.Tests.{eqb-true}
 use Rattle.lexical.specs.Text.{byte, bytes, first}
 use Rattle.lexical.specs.Byte.{isDigit, isLetter, isWhitespace, isTagNameByte, isAttributeNameStart, isAttributeNameByte, isQuote, isValueExcluded}
 use Rattle.lexical.proofs.Cases.{split, clash, and-left, and-right, and-no}
-use Rattle.rules.specs.Reading.{F2, F4, F5, crate, standard, without}
-use Rattle.rules.specs.Search.{choose, begins, past, Left, left, nothing, orElse, exactly}
-use Rattle.rules.specs.Tag.{Grammar, blockTags, tagEnd, pastQuote, specification, startsName, isValueByte, pastUnquoted, value, values, attribute, attributes, openTag}
+use Rattle.rules.specs.Reading.{F2, F4, F5, standard, without}
+use Rattle.rules.specs.Search.{choose, begins, past, Left}
+use Rattle.rules.specs.Tag.{Grammar, blockTags, tagEnd, pastQuote, specification, startsName, isValueByte, value, values, attributes, openTag}
 use Rattle.rules.specs.Block.{fillsLine}
-use Rattle.rules.specs.declared.Rules.{Rules}
 use Rattle.rules.proofs.Past.{past-cases}
 
 -- the grammars: of the standard, and without one change

@@ -1,14 +1,14 @@
 -- HTML blocks, CommonMark 0.31.2, 4.6, with F1 to F6. A block is a run of lines.
 use Prim.Native.Nat.{ℕ, zero, suc, _+_, _%_}
 use mathlib.Core.Bool.{Bool, true, false, _&&_, _||_, not}
-use mathlib.Core.List.{List, [], _∷_, _++_}
+use mathlib.Core.List.{List, [], _∷_}
 use lib.Dec.{eqb, leb}
 use lib.ListN.{length, take, drop}
 use Rattle.lexical.specs.Text.{byte, bytes, first, run}
 use Rattle.lexical.specs.Byte.{isLetter, isTagNameByte, isSpaceOrTab}
 use Rattle.lexical.specs.Name.{isBlockName, isRawName}
 use Rattle.lexical.specs.Line.{isBlank, atLineEnd}
-use Rattle.rules.specs.Search.{choose, begins, somewhere, Left, left, nothing, orElse}
+use Rattle.rules.specs.Search.{choose, begins, somewhere, Left, left, nothing}
 use Rattle.rules.specs.Tag.{blockTags, openTag, closingTag}
 use Rattle.rules.specs.Lines.{Line, isLazy, isInterrupt}
 use Rattle.rules.specs.declared.Rules.{Rules}

@@ -1,6 +1,6 @@
 -- Inline raw HTML, CommonMark 0.31.2, 6.6, with T1 and T2. Each definition gives what is left behind what it names.
 use Prim.Native.Nat.{ℕ, suc}
-use mathlib.Core.Bool.{Bool, true, false, _&&_}
+use mathlib.Core.Bool.{_&&_}
 use mathlib.Core.List.{List, [], _∷_}
 use lib.Dec.{eqb}
 use lib.ListN.{drop}

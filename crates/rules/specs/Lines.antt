@@ -1,9 +1,8 @@
 -- The lines of a bulletin with their flags, 01, What is read and given.
-use Prim.Native.Nat.{ℕ, _+_}
+use Prim.Native.Nat.{ℕ}
 use mathlib.Core.Bool.{Bool, true, false, _||_}
-use mathlib.Core.List.{List, [], _∷_, _++_}
+use mathlib.Core.List.{List, [], _∷_}
 use lib.Dec.{eqb}
-use lib.ListN.{length}
 use Rattle.lexical.specs.Text.{byte}
 use Rattle.rules.specs.Search.{choose}
 

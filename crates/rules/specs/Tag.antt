@@ -8,7 +8,7 @@ use lib.Dec.{eqb}
 use lib.ListN.{length, drop}
 use Rattle.lexical.specs.Text.{byte, bytes, first}
 use Rattle.lexical.specs.Byte.{isLetter, isDigit, isTagNameByte, isAttributeNameStart, isAttributeNameByte, isWhitespace, isQuote, isValueExcluded}
-use Rattle.rules.specs.Search.{choose, begins, past, Left, left, nothing, orElse, exactly}
+use Rattle.rules.specs.Search.{choose, begins, past, Left, nothing, orElse, exactly}
 use Rattle.rules.specs.declared.Rules.{Rules}
 
 pub record Grammar : Type 0 where

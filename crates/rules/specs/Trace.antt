@@ -1,7 +1,7 @@
 -- Traces of both scans and the reading of a trace, 01, Traces. The events of a scan are a function of the text, the start and the answer: the bytes taken are
 -- cut into lines, and the point of an event is that of its index.
 use Prim.Native.Nat.{ℕ, zero, suc, _+_, _-_, _*_, _/_, _%_}
-use mathlib.Core.Bool.{Bool, true, false, _&&_, _||_, not}
+use mathlib.Core.Bool.{Bool, false, _&&_, _||_, not}
 use mathlib.Core.List.{List, [], _∷_, _++_}
 use lib.Dec.{eqb, leb, ltb}
 use lib.ListN.{length, take, drop, getD}

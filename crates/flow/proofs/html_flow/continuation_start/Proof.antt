@@ -1,8 +1,6 @@
-use mathlib.Core.Path.{_≡_, refl, sym, _∙_, ap}
-use mathlib.Core.Bool.{true, false}
-use Prim.Native.Nat.{ℕ, _-_}
-use native.Mathlib.Omega.{arith}
-use lib.ListN.{length, drop}
+use mathlib.Core.Path.{_≡_, refl, sym, _∙_}
+use Prim.Native.Nat.{_-_}
+use lib.ListN.{length}
 use Rattle.flow.specs.Answer.{kindNumber}
 use Rattle.flow.specs.BlockMachine.{continuationStartOf}
 use Rattle.flow.proofs.BlockSteps.{text-over, same-from, line-ends, line-closes, line-on, next-within}

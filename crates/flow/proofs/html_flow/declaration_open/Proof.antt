@@ -1,5 +1,4 @@
 use mathlib.Core.Path.{sym, _∙_, ap}
-use mathlib.Core.Bool.{true, false}
 use Rattle.rules.specs.Search.{choose}
 use Rattle.flow.proofs.OpenSteps.{declaration-out, declaration-dash, declaration-letter, declaration-cdata, declaration-other}
 use borrow.Author.Needs.{needs}

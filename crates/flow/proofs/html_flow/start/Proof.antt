@@ -1,8 +1,7 @@
-use mathlib.Core.Path.{_≡_, sym, _∙_, ap}
+use mathlib.Core.Path.{sym, _∙_, ap}
 use mathlib.Core.List.{[]}
 use Prim.Native.Nat.{_<_, _≤_}
 use lib.ListN.{drop}
-use native.Mathlib.Omega.{arith}
 use Rattle.rules.specs.Lines.{line}
 use Rattle.rules.specs.Block.{indentation, kindAt}
 use Rattle.flow.proofs.OpenSteps.{too-deep, not-deep}

@@ -1,5 +1,5 @@
 -- Each return is one outcome of the tests; the name and what follows it are those of the rules.
-use mathlib.Core.Path.{_≡_, sym, _∙_, ap}
+use mathlib.Core.Path.{sym, _∙_, ap}
 use Prim.Native.Nat.{ℕ}
 use lib.Dec.{eqb}
 use borrow.Author.Tests.{not-true, not-false}

@@ -1,5 +1,3 @@
-use mathlib.Core.Path.{sym, ap}
-use lib.ListN.{getD}
 use Rattle.lexical.proofs.Suffix.{suffix-in, suffix-out}
 use borrow.Author.Needs.{needs}
 use Rattle.flow.proofs.partial_non_lazy_continuation.flag_at.Statement.{statement}

@@ -1,9 +1,5 @@
-use mathlib.Core.Path.{_≡_, refl, sym, _∙_, ap}
-use Prim.Native.Nat.{_+_}
 use native.Mathlib.Omega.{arith}
-use lib.ListN.{drop}
 use borrow.Author.Tests.{ne-eqb}
-use Rattle.html.specs.TextMachine.{bodyMark, bodyLength}
 use borrow.Author.Needs.{needs}
 use Rattle.html.proofs.tokenizer.body_end.Statement.{statement}
 use Rattle.html.proofs.tokenizer.body_end.Tie as tie

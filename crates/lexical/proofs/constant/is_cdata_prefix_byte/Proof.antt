@@ -4,7 +4,6 @@ use native.Mathlib.Omega.{arith}
 use lib.Dec.{eqb}
 use borrow.Author.Tests.{ne-eqb}
 use Rattle.lexical.proofs.Suffix.{first-in, first-out}
-use mathlib.Core.Path.{refl}
 use Rattle.lexical.specs.Name.{cdataPrefix}
 use borrow.Author.Needs.{needs}
 use Rattle.lexical.proofs.constant.is_cdata_prefix_byte.Statement.{statement}

@@ -1,7 +1,7 @@
 -- The invariant: no name before offset `k` is it, so it is among all of them where it is among those from there on.
 use mathlib.Core.Path.{_≡_, refl, sym, _∙_}
 use mathlib.Core.List.{map}
-use Prim.Native.Nat.{ℕ, _≤_, _-_, _+_}
+use Prim.Native.Nat.{_≤_, _-_}
 use native.Mathlib.Omega.{arith}
 use lib.ListN.{length}
 use Rattle.lexical.specs.Byte.{lower}

@@ -1,10 +1,7 @@
 use mathlib.Core.Path.{sym, _∙_, ap, refl}
-use mathlib.Core.Bool.{true, false, not}
-use lib.Dec.{eqb}
-use Rattle.lexical.proofs.Cases.{clash, or-no}
-use Rattle.rules.specs.Block.{kindOf}
+use mathlib.Core.Bool.{true, false}
+use Rattle.lexical.proofs.Cases.{clash}
 use Rattle.flow.specs.Answer.{blockAnswerOf}
-use Rattle.screen.specs.Remaining.{lineAt}
 use Rattle.screen.proofs.BlockLines.{opens, never-refused}
 use Rattle.screen.proofs.Paragraphs.{ends-by}
 use borrow.Author.Needs.{needs}

@@ -1,6 +1,5 @@
 use mathlib.Core.Path.{refl, subst}
 use Prim.Native.Nat.{_-_}
-use native.Mathlib.Omega.{arith}
 use lib.ListN.{length}
 use Rattle.screen.specs.Remaining.{Attempt}
 use Rattle.screen.proofs.InlineSteps.{AtOpening, to-opening, onward, past-opening, none-left}

@@ -1,6 +1,5 @@
 use mathlib.Core.Path.{sym, _∙_}
 use Prim.Native.Nat.{_+_, _-_}
-use native.Mathlib.Omega.{arith}
 use lib.ListN.{length, drop}
 use Rattle.lexical.specs.Line.{lineLength}
 use Rattle.screen.proofs.Paragraphs.{Along, along-first, along-next, ends-before, ends-with}

@@ -1,5 +1,5 @@
 use mathlib.Core.Path.{refl, sym, _∙_, ap}
-use mathlib.Core.Bool.{true, false}
+use mathlib.Core.Bool.{true}
 use borrow.Author.Tests.{eqb-true, not-false}
 use Rattle.lexical.proofs.Cases.{clash}
 use Rattle.flow.specs.Answer.{blockAnswerOf}

@@ -1,4 +1,4 @@
-use mathlib.Core.Path.{_≡_, refl, sym, _∙_, ap}
+use mathlib.Core.Path.{sym, _∙_, ap}
 use Rattle.rules.specs.Scan.{foundBlock}
 use Rattle.flow.specs.Answer.{blockAnswerOf}
 use Rattle.trace.proofs.Outputs.{block-found-by, block-none-by, block-refused-by}

@@ -1,8 +1,7 @@
 use Rattle.lexical.proofs.Moves.{arrived}
 use mathlib.Core.Path.{_≡_, refl, sym, _∙_, ap}
 use Prim.Native.Nat.{_-_, _+_}
-use native.Mathlib.Omega.{arith}
-use lib.ListN.{length, drop}
+use lib.ListN.{drop}
 use Rattle.lexical.specs.Point.{movedBy}
 use Rattle.lexical.proofs.Moves.{turn, moved-out}
 use borrow.Author.Needs.{needs}
