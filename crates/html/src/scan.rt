@@ -76,11 +76,7 @@ fn inline_refusal(text: &[u8], index: usize, carry: u8) -> u8
 fn by_t2(rules: Rules, made: u8, otherwise: u8) -> u8
     ensures { λ r. ⌜ r ≡ pick (rules .t2) made otherwise ⌝ }
 {
-    if rules.t2 {
-        made
-    } else {
-        otherwise
-    }
+    if rules.t2 { made } else { otherwise }
 }
 
 // The answer, with the carry passed in where T2 is left out: without it the carry is neither read nor changed.
@@ -95,7 +91,10 @@ pub fn keep(rules: Rules, answer: Inline, carry: u8) -> Inline
         Inline::Missing { carry: left } => Inline::Missing {
             carry: by_t2(rules, left, carry),
         },
-        Inline::Refused { refusal, carry: left } => Inline::Refused {
+        Inline::Refused {
+            refusal,
+            carry: left,
+        } => Inline::Refused {
             refusal,
             carry: by_t2(rules, left, carry),
         },

@@ -50,10 +50,12 @@ loop-less c = search (needs, c .mark-or-line-end2 .ensures)
 
 loop-again : tie.Need-loop-again Inv-loop μ-loop
 loop-again c =
-    let v = c .before .before .before .before .before .before .before .before .loop .inv in
-    (sym (c .before .before .before .before .is-close .ensures) ∙ c .before .before .before .if1 .left, v .1,
-    sym (closer-behind _ _ _ _ (sym (c .before .before .is-continuation .ensures) ∙ c .before .if2 .taken) (v .1) _ _ _ (c .mark-or-line-end2 .ensures))
-    ∙ sym (turn _ _ _ _ _ _ (c .before .before .before .before .before .before .before .loop-test .taken) (v .0) (c .before .before .before .before .before .continuation-step .ensures)) ∙ v .2)
+    let v = c .before .before .before .before .before .before .before .before .loop .inv in (
+      sym (c .before .before .before .before .is-close .ensures) ∙ c .before .before .before .if1 .left,
+      v .1,
+      sym (closer-behind _ _ _ _ (sym (c .before .before .is-continuation .ensures) ∙ c .before .if2 .taken) (v .1) _ _ _ (c .mark-or-line-end2 .ensures))
+          ∙ sym (turn _ _ _ _ _ _ (c .before .before .before .before .before .before .before .loop-test .taken) (v .0) (c .before .before .before .before .before .continuation-step .ensures)) ∙ v .2,
+    )
 
 loop-less-2 : tie.Need-loop-less-2 Inv-loop μ-loop
 loop-less-2 c = search needs

@@ -37,7 +37,7 @@ keep-requires : tie.Need-keep-requires
 keep-requires c κs = search needs
 
 returns-2 : tie.Need-returns-2
-returns-2 c = 
+returns-2 c =
     let a = c .before .before .before .before .before .args in
     let e = c .before .before .before .inline-refusal .ensures in
     let z = c .before .before .if1 .left in
