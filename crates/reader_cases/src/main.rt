@@ -6,67 +6,16 @@
 // `f`: whether the text, a line of a block of the digit's kind, has its closer, by the lent step with all eight changes. `F`: with none of them.
 //
 // The inline texts of `r` and `t` and their answers are those of scan_cases: 01's rows, CommonMark's examples, the answers of the Rust crate markdown 1.0.0, and 01's refusals, which the run does not make. The index and byte behind them are counted from the text. The texts of `p` are paragraphs of CommonMark 0.31.2 (CC BY-SA 4.0), 6.6, and the answers of `T` and `F` are what its 6.6 and 4.6 say of the text; those of `f` for CDATA are 01's F1.
-ghost use Prim.Native.Nat.{_≤_};
+use cases::escape::digit;
+use cases::escape::index_of;
+use cases::escape::unescape;
+use cases::show::put;
+use cases::show::show_inline;
 use flow::html_flow::Kind;
-use html::tokenizer::Inline;
 use html::tokenizer::StateName;
-use lexical::byte::peek;
 use lexical::slice::from_indices;
 use reader::slice::Turn;
 use rules::Rules;
-
-// What a digit stands for. Any other byte: 0.
-fn digit(b: u8) -> u8
-    ensures { λ r. ⌜ r ≤ 9 ⌝ }
-{
-    if b < b'0' {
-        return 0;
-    }
-    if b > b'9' {
-        return 0;
-    }
-    b - b'0'
-}
-
-// How many bytes of a case one byte of its text takes: two where a backslash leads.
-fn width(b: u8) -> usize
-    ensures { λ r. ⌜ 1 ≤ r ⌝ }
-    ensures { λ r. ⌜ r ≤ 2 ⌝ }
-{
-    if b == b'\\' { 2 } else { 1 }
-}
-
-// The byte of the text, from a byte of the case and the one behind it.
-fn meant(b: u8, next: u16) -> u8 {
-    if b == b'\\' {
-        if next == 110 {
-            return b'\n';
-        }
-        if next == 114 {
-            return b'\r';
-        }
-        if next == 116 {
-            return b'\t';
-        }
-    }
-    b
-}
-
-// Writes the text of a case, from an index on, and gives its length.
-fn unescape(line: &[u8], from: usize, out: &mut [u8]) -> usize {
-    let mut i: usize = from;
-    let mut n: usize = 0;
-    while i < line.len() {
-        if n >= out.len() {
-            return n;
-        }
-        let b = line[i];
-        out[n] = meant(b, peek(line, i + 1));
-        n += 1;
-        i += width(b);
-    }
-    n
-}
 
 // All eight changes, or none.
 fn reading(changed: bool) -> Rules {
@@ -92,27 +41,6 @@ fn kind(number: u8) -> Kind {
         5 => Kind::Cdata,
         6 => Kind::Basic,
         _ => Kind::Complete,
-    }
-}
-
-fn put(word: &[u8], number: u64) {
-    io::write_all(1, word);
-    io::print_decimal(1, number);
-}
-
-fn show_inline(answer: Inline) {
-    match answer {
-        Inline::Found { stop, carry } => {
-            put(b"found ", stop as u64);
-            put(b" ", carry as u64);
-        }
-        Inline::Missing { carry } => {
-            put(b"none ", carry as u64);
-        }
-        Inline::Refused { refusal, carry } => {
-            put(b"refused ", refusal as u64);
-            put(b" ", carry as u64);
-        }
     }
 }
 
@@ -169,9 +97,7 @@ fn one(line: &[u8]) {
     if line.len() < 8 {
         return;
     }
-    let index = digit(line[2]) as usize * 100
-        + digit(line[3]) as usize * 10
-        + digit(line[4]) as usize;
+    let index = index_of(line);
     let n = unescape(line, 8, &mut buffer);
     show(line[0], from_indices(&buffer, 0, n), index, digit(line[6]));
 }

@@ -10,16 +10,15 @@
 // `refused NUMBER`; then `traced LENGTH` or `refused NUMBER`, and the buffer. Records: `event KIND LINE COLUMN INDEX VS`, `last KIND STOP VALUE` or `refused NUMBER`.
 //
 // The files stdin and stdout are written by compare/record.sh, which asks the Rust, and 01's table for refusals; it tells what the cases cover.
-ghost use Prim.Native.Nat.{_<_, _≤_};
-ghost use lib.ListN.{length};
-use flow::html_flow::kind_number;
-use flow::scan::Block;
+use cases::hex::decode;
+use cases::show::show_block;
+use cases::show::show_inline;
+use cases::show::show_record;
+use cases::show::show_trace;
 use flow::scan::block_scan;
 use html::scan::inline_scan;
-use html::tokenizer::Inline;
 use lexical::slice::from_indices;
 use trace::block::block_trace;
-use trace::reader::Record;
 use trace::reader::read_trace;
 use trace::tracer::Traced;
 use trace::tracer::inline_trace;
@@ -35,43 +34,6 @@ const LENGTH: usize = 16384;
 
 // What the output buffer holds before.
 const FILL: u8 = 0xee;
-
-// The value of a digit, or 0.
-fn digit(b: u8) -> u8
-    ensures { λ r. ⌜ r < 16 ⌝ }
-{
-    if b < b'0' {
-        return 0;
-    }
-    if b <= b'9' {
-        return b - b'0';
-    }
-    if b < b'a' {
-        return 0;
-    }
-    if b <= b'f' {
-        return b - b'a' + 10;
-    }
-    0
-}
-
-// The bytes that two digits each stand for, behind the letter.
-fn decode(line: &[u8], out: &mut [u8]) -> usize
-    requires { ⌜ length (now out) ≤ 512 ⌝ }
-{
-    let mut n: usize = 0;
-    while n < out.len() {
-        let at = 2 * n + 1;
-        if line.len() < at + 2 {
-            return n;
-        }
-        let high = digit(line[at]);
-        let low = digit(line[at + 1]);
-        out[n] = high * 16 + low;
-        n += 1;
-    }
-    n
-}
 
 // The byte at an index, or 0.
 fn byte_at(bytes: &[u8], index: usize) -> u8 {
@@ -95,72 +57,16 @@ fn room_of(case: &[u8]) -> usize {
     number(byte_at(case, 3), byte_at(case, 4))
 }
 
-fn put(word: &[u8], number: u64) {
-    io::write_all(1, word);
-    io::print_decimal(1, number);
-}
-
-fn print_bytes(bytes: &[u8]) {
-    let mut i: usize = 0;
-    while i < bytes.len() {
-        io::print_hex(1, bytes[i] as u64, 2);
-        i += 1;
-    }
-}
-
-fn show_inline(answer: Inline) {
-    match answer {
-        Inline::Found { stop, carry } => {
-            put(b"found ", stop as u64);
-            put(b" ", carry as u64);
-        }
-        Inline::Missing { carry } => {
-            put(b"none ", carry as u64);
-        }
-        Inline::Refused { refusal, carry } => {
-            put(b"refused ", refusal as u64);
-            put(b" ", carry as u64);
-        }
-    }
-}
-
-fn show_block(answer: Block) {
-    match answer {
-        Block::Found { kind, stop, closed } => {
-            put(b"found ", kind_number(kind) as u64);
-            put(b" ", stop as u64);
-            if closed {
-                io::write_all(1, b" yes");
-            } else {
-                io::write_all(1, b" no");
-            }
-        }
-        Block::Missing => {
-            io::write_all(1, b"none");
-        }
-        Block::Refused { refusal } => {
-            put(b"refused ", refusal as u64);
-        }
-    }
-}
-
-fn show_trace(answer: Traced, out: &[u8]) {
-    match answer {
-        Traced::Length(n) => {
-            put(b" traced ", n as u64);
-        }
-        Traced::Refused { refusal } => {
-            put(b" refused ", refusal as u64);
-        }
-    }
+// What is shown of the trace, behind the scan's answer.
+fn show(answer: Traced, out: &[u8]) {
     io::write_all(1, b" ");
-    print_bytes(out);
+    show_trace(answer, out);
     io::write_all(1, b"\n");
 }
 
 fn inline_into(text: &[u8], index: usize, carry: u8, out: &mut [u8]) {
     let answer = inline_trace(text, index, carry, out);
-    show_trace(answer, out);
+    show(answer, out);
 }
 
 fn one_inline(text: &[u8], index: usize, carry: u8, room: usize) {
@@ -173,7 +79,7 @@ fn one_inline(text: &[u8], index: usize, carry: u8, room: usize) {
 
 fn block_into(bulletin: &[u8], flags: &[u8], index: usize, out: &mut [u8]) {
     let answer = block_trace(bulletin, flags, index, out);
-    show_trace(answer, out);
+    show(answer, out);
 }
 
 fn one_block(bulletin: &[u8], flags: &[u8], index: usize, room: usize) {
@@ -184,30 +90,8 @@ fn one_block(bulletin: &[u8], flags: &[u8], index: usize, room: usize) {
     }
 }
 
-fn show_record(answer: Record) {
-    match answer {
-        Record::Event {
-            kind,
-            line,
-            column,
-            index,
-            vs,
-        } => {
-            put(b"event ", kind as u64);
-            put(b" ", line as u64);
-            put(b" ", column as u64);
-            put(b" ", index as u64);
-            put(b" ", vs as u64);
-        }
-        Record::Last { kind, stop, value } => {
-            put(b"last ", kind as u64);
-            put(b" ", stop as u64);
-            put(b" ", value as u64);
-        }
-        Record::Refused { refusal } => {
-            put(b"refused ", refusal as u64);
-        }
-    }
+fn one_record(case: &[u8]) {
+    show_record(read_trace(from_indices(case, 1, case.len()), byte_at(case, 0) as usize));
     io::write_all(1, b"\n");
 }
 
@@ -250,7 +134,7 @@ fn one_case(letter: u8, case: &[u8]) {
             from_indices(case, end, case.len()),
             true,
         ),
-        _ => show_record(read_trace(from_indices(case, 1, case.len()), byte_at(case, 0) as usize)),
+        _ => one_record(case),
     }
 }
 

@@ -8,8 +8,10 @@
 // and interrupting lines, the three line endings, tabs, blank lines and the empty last line; paragraphs next to blocks; inline pieces over several lines; openings
 // that no closer follows, and closed ones behind them and in the next paragraph; and bulletins that differ in a private piece. The pieces are those that the Rust
 // crate markdown 1.0.0 finds, from compare, where 01's Withhold paragraph has it scan; the refusals are 01's table.
-ghost use Prim.Native.Nat.{_≤_};
-use lexical::byte::peek;
+use cases::escape::digit;
+use cases::escape::flags_end;
+use cases::escape::unescape;
+use cases::show::put;
 use lexical::slice::from_indices;
 use screen::withhold::Withheld;
 use screen::withhold::withhold;
@@ -19,19 +21,6 @@ const LIMIT: usize = 16000;
 
 // What the output buffer holds before.
 const FILL: u8 = 0xee;
-
-// What a digit stands for. Any other byte: 0.
-fn digit(b: u8) -> u8
-    ensures { λ r. ⌜ r ≤ 9 ⌝ }
-{
-    if b < b'0' {
-        return 0;
-    }
-    if b > b'9' {
-        return 0;
-    }
-    b - b'0'
-}
 
 // What the five digits at the front stand for.
 fn number(digits: &[u8]) -> usize {
@@ -45,46 +34,6 @@ fn number(digits: &[u8]) -> usize {
         + digit(digits[4]) as usize
 }
 
-// How many bytes of a case one byte of its text takes: two where a backslash leads.
-fn width(b: u8) -> usize
-    ensures { λ r. ⌜ 1 ≤ r ⌝ }
-    ensures { λ r. ⌜ r ≤ 2 ⌝ }
-{
-    if b == b'\\' { 2 } else { 1 }
-}
-
-// The byte of the text, from a byte of the case and the one behind it.
-fn meant(b: u8, next: u16) -> u8 {
-    if b == b'\\' {
-        if next == 110 {
-            return b'\n';
-        }
-        if next == 114 {
-            return b'\r';
-        }
-        if next == 116 {
-            return b'\t';
-        }
-    }
-    b
-}
-
-// Writes the text of a case, from an index on, and gives its length.
-fn unescape(line: &[u8], from: usize, out: &mut [u8]) -> usize {
-    let mut i: usize = from;
-    let mut n: usize = 0;
-    while i < line.len() {
-        if n >= out.len() {
-            return n;
-        }
-        let b = line[i];
-        out[n] = meant(b, peek(line, i + 1));
-        n += 1;
-        i += width(b);
-    }
-    n
-}
-
 // Repeats the first n bytes of a buffer up to an index.
 fn repeat(bytes: &mut [u8], n: usize, end: usize) {
     let mut i: usize = n;
@@ -95,24 +44,6 @@ fn repeat(bytes: &mut [u8], n: usize, end: usize) {
         bytes[i] = bytes[i - n];
         i += 1;
     }
-}
-
-// Writes the flags of a case and gives the index behind them.
-fn flags_end(line: &[u8], out: &mut [u8]) -> usize
-    ensures { λ r. ⌜ 12 ≤ r ⌝ }
-{
-    let mut i: usize = 12;
-    while i < line.len() {
-        if line[i] == b' ' {
-            return i;
-        }
-        if i - 12 >= out.len() {
-            return i;
-        }
-        out[i - 12] = digit(line[i]);
-        i += 1;
-    }
-    i
 }
 
 // Whether a buffer is as it was, from an index on.
@@ -164,11 +95,6 @@ fn show_bytes(bytes: &[u8]) {
     }
 }
 
-fn put(word: &[u8], number: u64) {
-    io::write_all(1, word);
-    io::print_decimal(1, number);
-}
-
 fn show(answer: Withheld, out: &[u8]) {
     match answer {
         Withheld::Shown { length, pieces } => {
@@ -203,7 +129,7 @@ fn one(line: &[u8]) {
     let mut bulletin = [0u8; LIMIT + 1];
     let room = number(line);
     let length = number(from_indices(line, 6, 11));
-    let end = flags_end(line, &mut flags);
+    let end = flags_end(line, 12, &mut flags);
     if end >= line.len() {
         return;
     }

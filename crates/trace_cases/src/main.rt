@@ -2,64 +2,14 @@
 // answer of the trace, and the buffer after it, which held EE. `b`: an index, the number of flags, the room, the flags, and a bulletin; the same of a block.
 // `r`: a number, and a trace; the record of that number. The bytes of
 // written traces are those of the Rust crate markdown 1.0.0, from compare; records read and refusals are worked out by hand.
-ghost use Prim.Native.Nat.{_<_, _≤_};
-ghost use lib.ListN.{length};
+use cases::hex::decode;
+use cases::show::show_record;
+use cases::show::show_trace;
 use lexical::slice::from_indices;
 use trace::block::block_trace;
-use trace::reader::Record;
 use trace::reader::read_trace;
 use trace::tracer::Traced;
 use trace::tracer::inline_trace;
-
-// The value of a digit, or 0.
-fn digit(b: u8) -> u8
-    ensures { λ r. ⌜ r < 16 ⌝ }
-{
-    if b < b'0' {
-        return 0;
-    }
-    if b <= b'9' {
-        return b - b'0';
-    }
-    if b < b'a' {
-        return 0;
-    }
-    if b <= b'f' {
-        return b - b'a' + 10;
-    }
-    0
-}
-
-// The bytes that two digits each stand for, behind the letter.
-fn decode(line: &[u8], out: &mut [u8]) -> usize
-    requires { ⌜ length (now out) ≤ 512 ⌝ }
-{
-    let mut n: usize = 0;
-    while n < out.len() {
-        let at = 2 * n + 1;
-        if line.len() < at + 2 {
-            return n;
-        }
-        let high = digit(line[at]);
-        let low = digit(line[at + 1]);
-        out[n] = high * 16 + low;
-        n += 1;
-    }
-    n
-}
-
-fn print_number(n: usize) {
-    io::write_all(1, b" ");
-    io::print_decimal(1, n as u64);
-}
-
-fn print_bytes(bytes: &[u8]) {
-    let mut i: usize = 0;
-    while i < bytes.len() {
-        io::print_hex(1, bytes[i] as u64, 2);
-        i += 1;
-    }
-}
 
 // A buffer that holds EE.
 fn filled() -> [u8; 256] {
@@ -67,18 +17,7 @@ fn filled() -> [u8; 256] {
 }
 
 fn show(answer: Traced, out: &[u8]) {
-    match answer {
-        Traced::Length(n) => {
-            io::write_all(1, b"traced");
-            print_number(n);
-        }
-        Traced::Refused { refusal } => {
-            io::write_all(1, b"refused");
-            print_number(refusal as usize);
-        }
-    }
-    io::write_all(1, b" ");
-    print_bytes(out);
+    show_trace(answer, out);
     io::write_all(1, b"\n");
 }
 
@@ -119,33 +58,8 @@ fn one_record(bytes: &[u8]) {
     if bytes.len() < 1 {
         return;
     }
-    let number = bytes[0] as usize;
-    match read_trace(&bytes[1..], number) {
-        Record::Event {
-            kind,
-            line,
-            column,
-            index,
-            vs,
-        } => {
-            io::write_all(1, b"event");
-            print_number(kind as usize);
-            print_number(line);
-            print_number(column);
-            print_number(index);
-            print_number(vs as usize);
-        }
-        Record::Last { kind, stop, value } => {
-            io::write_all(1, b"last");
-            print_number(kind as usize);
-            print_number(stop);
-            print_number(value as usize);
-        }
-        Record::Refused { refusal } => {
-            io::write_all(1, b"refused");
-            print_number(refusal as usize);
-        }
-    }
+    let number = lexical::byte::peek(bytes, 0) as usize;
+    show_record(read_trace(from_indices(bytes, 1, bytes.len()), number));
     io::write_all(1, b"\n");
 }
 
