@@ -771,7 +771,7 @@ fn before(rules: Rules, line: &[u8], at: usize, flag: u8) -> Opening
 pub(crate) fn start(rules: Rules, line: &[u8], flag: u8) -> Opening
     ensures { λ r. ⌜ openingNumber r ≡ kindOf rules (lineOf flag [] (now (line .entry))) ⌝ }
 {
-    let indent = inside(line);
+    let indent = inside(line, 0);
     if indent > 3 {
         return Opening::Shut;
     }

@@ -1,15 +1,17 @@
 // partial_space_or_tab.rs: the indentation of a block. Only spaces count: a tab stands for more columns than a block may be indented by.
 ghost use mathlib.Core.Path.{_≡_};
+ghost use Prim.Native.Nat.{_+_};
+ghost use lib.ListN.{drop};
 ghost use Rattle.rules.specs.Block.{indentation};
 
-// How many spaces lead the line.
+// Past the spaces at an index.
 //
 //       <div>
 //     ^^
-pub(crate) fn inside(line: &[u8]) -> usize
-    ensures { λ r. ⌜ r ≡ indentation (now (line .entry)) ⌝ }
+pub fn inside(line: &[u8], index: usize) -> usize
+    ensures { λ r. ⌜ r ≡ index + indentation (drop index (now (line .entry))) ⌝ }
 {
-    let mut i = 0;
+    let mut i = index;
     while i < line.len() {
         if line[i] != b' ' {
             return i;

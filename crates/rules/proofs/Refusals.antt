@@ -5,8 +5,8 @@ use mathlib.Core.List.{List, [], _∷_, _++_}
 use Prim.Native.Nat.{ℕ, _<_, _≤_}
 use lib.Dec.{eqb}
 use lib.ListN.{length}
-use borrow.Author.Tests.{eq-eqb, ne-eqb, lt-ltb, le-ltb}
-use Rattle.lexical.proofs.Cases.{clash, and-left, and-right}
+use borrow.Author.Tests.{eq-eqb, eqb-true, ne-eqb, lt-ltb, le-ltb}
+use Rattle.lexical.proofs.Cases.{split, clash, and-left, and-right}
 use Rattle.rules.specs.Search.{choose}
 use Rattle.rules.specs.Refusal.{Check, check, refusal, outputRefusal}
 
@@ -64,11 +64,30 @@ output-fits room output h = rw (le-ltb room (length output) h)
 
 -- ---- an answer, or what a refusal makes of its number
 module _ {A : Type 0} (refused : ℕ → A) (answer : A) where
+  abbrev pub unless : ℕ → A
+  unless n = choose (eqb n 0) (λ _. answer) (λ _. refused n)
+
   abbrev pub decided : List Check → A
-  decided cs = choose (eqb (refusal cs) 0) (λ _. answer) (λ _. refused (refusal cs))
+  decided cs = unless (refusal cs)
 
   pub refuses : (cs : List Check) (n : ℕ) → eqb n 0 ≡ false → refusal cs ≡ n → decided cs ≡ refused n
   refuses cs n e h = rw (h, e)
 
   pub answers : (cs : List Check) → refusal cs ≡ 0 → decided cs ≡ answer
   answers cs h = rw h
+
+  -- what comes out and is no refusal is the answer
+  module _ (x : A) (no : (m : ℕ) → refused m ≡ x → ⊥) (n : ℕ) where
+    pub given-passes : unless n ≡ x → n ≡ 0
+    given-passes e = split (eqb n 0) (λ t. eqb-true n 0 t) (λ t. absurd (no n (rw t at e)))
+
+    pub given-is : unless n ≡ x → answer ≡ x
+    given-is e = rw (eq-eqb n 0 (given-passes e)) at e
+
+  -- what comes out and is no answer is a refusal
+  module _ (x : A) (no : answer ≡ x → ⊥) (n : ℕ) where
+    pub refused-by : unless n ≡ x → refused n ≡ x
+    refused-by e = split (eqb n 0) (λ t. absurd (no (rw t at e))) (λ t. rw t at e)
+
+    pub refused-some : unless n ≡ x → n ≡ 0 → ⊥
+    refused-some e z = no (rw (eq-eqb n 0 z) at e)

@@ -1,23 +1,24 @@
 -- What an answer of the block scan says of the text: where a scan is not refused, the text is within the limit and the index within the text; a stop lies
 -- between the index and the end, because the lines from the index on have together the bytes from there on.
-use mathlib.Core.Path.{_≡_, refl, sym, _∙_}
-use mathlib.Core.Bool.{Bool, true, false, not}
+use mathlib.Core.Path.{_≡_, refl, _∙_}
+use mathlib.Core.Bool.{Bool, true, not}
 use mathlib.Core.List.{List, [], _∷_}
 use Prim.Native.Nat.{ℕ, zero, suc, _+_, _-_, _<_, _≤_}
 use native.Mathlib.Omega.{arith}
 use lib.Dec.{eqb, ltb}
 use lib.ListN.{length, take, drop, length-drop}
-use borrow.Author.Tests.{eq-eqb, eqb-true, ltb-true, ltb-false}
+use borrow.Author.Tests.{ltb-true, ltb-false, not-false}
 use Rattle.lexical.specs.Text.{limit}
 use Rattle.lexical.specs.Line.{isLineStart, lineEndings}
 use Rattle.lexical.proofs.Cases.{split}
 use Rattle.lexical.proofs.Ending.{ends-out}
 use Rattle.rules.specs.Reading.{crate as ofCrate}
-use Rattle.rules.specs.Refusal.{blockRefusal}
+use Rattle.rules.specs.Refusal.{tooLong, wrongCount, wrongFlag, blockRefusal}
 use Rattle.rules.specs.Lines.{Line}
 use Rattle.rules.specs.Block.{kindOf, extentOf, stopAfter}
 use Rattle.rules.specs.Scan.{foundBlock, noBlock, refusedBlock, blockOf, linesAt, blockAt, blockScan}
-use Rattle.trace.proofs.Stops.{Between, first-check, next-check}
+use Rattle.rules.proofs.Refusals.{not-met, given-passes, given-is, refused-by, refused-some}
+use Rattle.trace.proofs.Stops.{Between}
 use Rattle.rules.proofs.LineLaws.{sizes, lines-size}
 
 -- ---- the bytes of the lines from an index on
@@ -60,10 +61,6 @@ start-within s (suc i) h =
     split (ltb i (length s)) (λ t. let l : i < length s = ltb-true i (length s) t in omega arith)
     (λ t. let e = ends-out s i (ltb-false i (length s) t) in let z : _≡_ {A = ℕ} 0 1 = cc in absurd (omega arith))
 
-not-false : (b : Bool) → not b ≡ false → b ≡ true
-not-false true e = refl
-not-false false e = sym e
-
 pub record AdmittedBlock (text : List ℕ) (i : ℕ) : Type 0 where
   pub small : length text ≤ limit
   pub within : i ≤ length text
@@ -72,12 +69,11 @@ module _ (text flags : List ℕ) (i : ℕ) where
   pub block-admitted : blockRefusal text flags i ≡ 0 → AdmittedBlock text i
   unfolding blockRefusal
   block-admitted e =
-      let a : ltb limit (length text) ≡ false = first-check _ 1 _ (λ z. omega arith) e in
-      let e2 = next-check _ 1 _ a e in
-      let e3 = next-check _ 2 _ (first-check _ 2 _ (λ z. omega arith) e2) e2 in
-      let e4 = next-check _ 3 _ (first-check _ 3 _ (λ z. omega arith) e3) e3 in
-      let d : not (isLineStart text i) ≡ false = first-check _ 4 _ (λ z. omega arith) e4 in
-      record { small = ltb-false limit (length text) a; within = start-within text i (not-false (isLineStart text i) d) }
+      let front = tooLong text ∷ wrongCount text flags ∷ wrongFlag flags ∷ [] in
+      record {
+        small = ltb-false limit (length text) (not-met [] _ _ 1 refl refl e);
+        within = start-within text i (not-false _ (not-met front [] (not (isLineStart text i)) 4 refl refl e));
+      }
 
   pub block-between : i ≤ length text → (kind stop : ℕ) (closed : Bool) → blockAt ofCrate text flags i ≡ foundBlock kind stop closed → Between i stop (length text)
   unfolding blockAt
@@ -95,26 +91,29 @@ module _ (text flags : List ℕ) (i : ℕ) where
   pub block-refused-number : (n : ℕ) → blockScan ofCrate text flags i ≡ refusedBlock n → blockRefusal text flags i ≡ n
   unfolding blockScan blockAt
   block-refused-number n e =
-      split (eqb (blockRefusal text flags i) 0) (λ t. absurd (no-refusal (linesAt text flags i) n (rw t at e))) (λ t. let f = rw t at e in cc)
+      let f = refused-by refusedBlock (blockAt ofCrate text flags i) (refusedBlock n) (no-refusal (linesAt text flags i) n) (blockRefusal text flags i) e in cc
 
   pub block-refused-some : (n : ℕ) → blockScan ofCrate text flags i ≡ refusedBlock n → n ≡ 0 → ⊥
   unfolding blockScan blockAt
   block-refused-some n e z =
-      let r : blockRefusal text flags i ≡ 0 = block-refused-number n e ∙ z in
-      no-refusal (linesAt text flags i) n (rw (eq-eqb (blockRefusal text flags i) 0 r) at e)
+      refused-some refusedBlock (blockAt ofCrate text flags i) (refusedBlock n) (no-refusal (linesAt text flags i) n) (blockRefusal text flags i) e (block-refused-number n e ∙ z)
+
+  found-no-refusal : (kind stop : ℕ) (closed : Bool) (m : ℕ) → refusedBlock m ≡ foundBlock kind stop closed → ⊥
+  found-no-refusal kind stop closed m e = let z : _≡_ {A = ℕ} 0 1 = cc in omega arith
+
+  none-no-refusal : (m : ℕ) → refusedBlock m ≡ noBlock → ⊥
+  none-no-refusal m e = let z : _≡_ {A = ℕ} 0 1 = cc in omega arith
 
   pub block-found-passes : (kind stop : ℕ) (closed : Bool) → blockScan ofCrate text flags i ≡ foundBlock kind stop closed → blockRefusal text flags i ≡ 0
   unfolding blockScan
   block-found-passes kind stop closed e =
-      split (eqb (blockRefusal text flags i) 0) (λ t. eqb-true (blockRefusal text flags i) 0 t)
-      (λ t. let f = rw t at e in let z : _≡_ {A = ℕ} 0 1 = cc in absurd (omega arith))
+      given-passes refusedBlock (blockAt ofCrate text flags i) (foundBlock kind stop closed) (found-no-refusal kind stop closed) (blockRefusal text flags i) e
 
   pub block-found-at : (kind stop : ℕ) (closed : Bool) → blockScan ofCrate text flags i ≡ foundBlock kind stop closed → blockAt ofCrate text flags i ≡ foundBlock kind stop closed
   unfolding blockScan
-  block-found-at kind stop closed e = rw (eq-eqb (blockRefusal text flags i) 0 (block-found-passes kind stop closed e)) at e
+  block-found-at kind stop closed e =
+      given-is refusedBlock (blockAt ofCrate text flags i) (foundBlock kind stop closed) (found-no-refusal kind stop closed) (blockRefusal text flags i) e
 
   pub block-none-passes : blockScan ofCrate text flags i ≡ noBlock → blockRefusal text flags i ≡ 0
   unfolding blockScan
-  block-none-passes e =
-      split (eqb (blockRefusal text flags i) 0) (λ t. eqb-true (blockRefusal text flags i) 0 t)
-      (λ t. let f = rw t at e in let z : _≡_ {A = ℕ} 0 1 = cc in absurd (omega arith))
+  block-none-passes e = given-passes refusedBlock (blockAt ofCrate text flags i) noBlock none-no-refusal (blockRefusal text flags i) e

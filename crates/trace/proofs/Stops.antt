@@ -1,19 +1,17 @@
 -- What an answer of the inline scan says of the text: where a scan is not refused, the text is within the limit and the index within the text; a stop lies
 -- between the index and the end, because what the machine leaves is never longer than what it was given.
 use mathlib.Core.Path.{_≡_, refl, _∙_}
-use mathlib.Core.Bool.{Bool, false}
 use mathlib.Core.List.{List, [], _∷_}
 use Prim.Native.Nat.{ℕ, suc, _-_, _≤_}
 use native.Mathlib.Omega.{arith}
-use lib.Dec.{eqb, ltb}
 use lib.ListN.{length, drop, length-drop}
-use borrow.Author.Tests.{eq-eqb, eqb-true, ltb-false}
+use borrow.Author.Tests.{ltb-false}
 use Rattle.lexical.specs.Text.{limit}
-use Rattle.lexical.proofs.Cases.{split}
 use Rattle.rules.specs.Reading.{crate as ofCrate}
-use Rattle.rules.specs.Refusal.{Check, check, refusal, inlineRefusal}
+use Rattle.rules.specs.Refusal.{tooLong, pastEnd, inlineRefusal}
+use Rattle.rules.proofs.Refusals.{not-met, given-passes, given-is, refused-by, refused-some as some}
 use Rattle.rules.specs.Inline.{Read, takes, lacks, readInline}
-use Rattle.rules.specs.Scan.{foundInline, noInline, refusedInline, inlineAnswer, inlineAt, inlineScan}
+use Rattle.rules.specs.Scan.{InlineAnswer, foundInline, noInline, refusedInline, inlineAnswer, inlineAt, inlineScan}
 use Rattle.rules.specs.declared.Rules.{Rules}
 use Rattle.html.specs.TextMachine.{stepOf, follow, runOf}
 use Rattle.html.specs.declared.tokenizer.StateName.{StateName}
@@ -58,14 +56,6 @@ module _ (text : List ℕ) (i k : ℕ) where
       (with-carry ofCrate text i k refl h ∙ f)
 
 -- ---- what was checked
-pub first-check : (b : Bool) (n : ℕ) (cs : List Check) → (n ≡ 0 → ⊥) → refusal (check b n ∷ cs) ≡ 0 → b ≡ false
-unfolding refusal
-first-check b n cs h e = split b (λ t. absurd (h (rw t at e))) (λ t. t)
-
-pub next-check : (b : Bool) (n : ℕ) (cs : List Check) → b ≡ false → refusal (check b n ∷ cs) ≡ 0 → refusal cs ≡ 0
-unfolding refusal
-next-check b n cs t e = rw t at e
-
 pub record Admitted (text : List ℕ) (i k : ℕ) : Type 0 where
   pub small : length text ≤ limit
   pub within : i ≤ length text
@@ -74,44 +64,44 @@ pub record Admitted (text : List ℕ) (i k : ℕ) : Type 0 where
 module _ (text : List ℕ) (i k : ℕ) where
   pub admitted : inlineRefusal text i k ≡ 0 → Admitted text i k
   unfolding inlineRefusal
-  admitted e =
-      let a : ltb limit (length text) ≡ false = first-check _ 1 _ (λ z. omega arith) e in
-      let e2 = next-check _ 1 _ a e in
-      let b : ltb (length text) i ≡ false = first-check _ 4 _ (λ z. omega arith) e2 in
-      let e3 = next-check _ 4 _ b e2 in
-      let c : ltb 5 k ≡ false = first-check _ 5 _ (λ z. omega arith) e3 in
-      record { small = ltb-false limit (length text) a; within = ltb-false (length text) i b; counted = ltb-false 5 k c }
+  admitted e = record {
+    small = ltb-false limit (length text) (not-met [] _ _ 1 refl refl e);
+    within = ltb-false (length text) i (not-met (tooLong text ∷ []) _ _ 4 refl refl e);
+    counted = ltb-false 5 k (not-met (tooLong text ∷ pastEnd text i ∷ []) _ _ 5 refl refl e);
+  }
 
   -- ---- by the answer
   answer-no-refusal : (n : ℕ) (r : Read) (m c : ℕ) → inlineAnswer n r ≡ refusedInline m c → ⊥
   answer-no-refusal n (takes s d) m c e = let z : _≡_ {A = ℕ} 0 1 = cc in omega arith
   answer-no-refusal n (lacks d) m c e = let z : _≡_ {A = ℕ} 0 1 = cc in omega arith
 
+  abbrev refused : ℕ → InlineAnswer
+  refused n = refusedInline n k
+
   pub refused-number : (n c : ℕ) → inlineScan ofCrate text i k ≡ refusedInline n c → inlineRefusal text i k ≡ n
   unfolding inlineScan inlineAt
   refused-number n c e =
-      split (eqb (inlineRefusal text i k) 0)
-      (λ t. absurd (answer-no-refusal (length text) (readInline ofCrate k (drop i text)) n c (rw t at e)))
-      (λ t. let f = rw t at e in cc)
+      let f = refused-by refused (inlineAt ofCrate text i k) (refusedInline n c) (answer-no-refusal (length text) (readInline ofCrate k (drop i text)) n c) (inlineRefusal text i k) e in cc
 
   pub refused-some : (n c : ℕ) → inlineScan ofCrate text i k ≡ refusedInline n c → n ≡ 0 → ⊥
   unfolding inlineScan inlineAt
   refused-some n c e z =
-      let r : inlineRefusal text i k ≡ 0 = refused-number n c e ∙ z in
-      answer-no-refusal (length text) (readInline ofCrate k (drop i text)) n c (rw (eq-eqb (inlineRefusal text i k) 0 r) at e)
+      some refused (inlineAt ofCrate text i k) (refusedInline n c) (answer-no-refusal (length text) (readInline ofCrate k (drop i text)) n c) (inlineRefusal text i k) e (refused-number n c e ∙ z)
+
+  found-no-refusal : (stop c m : ℕ) → refused m ≡ foundInline stop c → ⊥
+  found-no-refusal stop c m e = let z : _≡_ {A = ℕ} 0 1 = cc in omega arith
+
+  none-no-refusal : (c m : ℕ) → refused m ≡ noInline c → ⊥
+  none-no-refusal c m e = let z : _≡_ {A = ℕ} 0 1 = cc in omega arith
 
   pub found-passes : (stop c : ℕ) → inlineScan ofCrate text i k ≡ foundInline stop c → inlineRefusal text i k ≡ 0
   unfolding inlineScan
-  found-passes stop c e =
-      split (eqb (inlineRefusal text i k) 0) (λ t. eqb-true (inlineRefusal text i k) 0 t)
-      (λ t. let f = rw t at e in let z : _≡_ {A = ℕ} 0 1 = cc in absurd (omega arith))
+  found-passes stop c e = given-passes refused (inlineAt ofCrate text i k) (foundInline stop c) (found-no-refusal stop c) (inlineRefusal text i k) e
 
   pub found-at : (stop c : ℕ) → inlineScan ofCrate text i k ≡ foundInline stop c → inlineAt ofCrate text i k ≡ foundInline stop c
   unfolding inlineScan
-  found-at stop c e = rw (eq-eqb (inlineRefusal text i k) 0 (found-passes stop c e)) at e
+  found-at stop c e = given-is refused (inlineAt ofCrate text i k) (foundInline stop c) (found-no-refusal stop c) (inlineRefusal text i k) e
 
   pub none-passes : (c : ℕ) → inlineScan ofCrate text i k ≡ noInline c → inlineRefusal text i k ≡ 0
   unfolding inlineScan
-  none-passes c e =
-      split (eqb (inlineRefusal text i k) 0) (λ t. eqb-true (inlineRefusal text i k) 0 t)
-      (λ t. let f = rw t at e in let z : _≡_ {A = ℕ} 0 1 = cc in absurd (omega arith))
+  none-passes c e = given-passes refused (inlineAt ofCrate text i k) (noInline c) (none-no-refusal c) (inlineRefusal text i k) e

@@ -2,9 +2,8 @@
 ghost use mathlib.Core.Path.{_≡_};
 ghost use mathlib.Core.List.{_++_};
 ghost use Prim.Native.Nat.{_+_, _*_, _≤_};
-ghost use lib.ListN.{length, drop};
+ghost use lib.ListN.{length};
 ghost use Rattle.lexical.specs.Text.{limit};
-ghost use Rattle.rules.specs.Block.{indentation};
 ghost use Rattle.rules.specs.Refusal.{outputRefusal};
 ghost use Rattle.rules.specs.Scan.{foundBlock};
 ghost use Rattle.rules.specs.Trace.{taken, endsEmpty, flowExit, eventBytes, lastBytes, blockTrace};
@@ -26,6 +25,7 @@ use crate::writer::EVENT_LENGTH;
 use crate::writer::LAST_LENGTH;
 use crate::writer::write_last;
 use flow::html_flow::kind_number;
+use flow::partial_space_or_tab::inside;
 use flow::scan::Block;
 use flow::scan::block_scan;
 use lexical::byte::is_line_ending_byte;
@@ -41,20 +41,6 @@ const LAST_FLOW: u8 = 14;
 
 // The last kind of block that has a closer.
 const CDATA: u8 = 5;
-
-// Past the spaces at an index.
-fn indent_end(front: &[u8], index: usize) -> usize
-    ensures { λ r. ⌜ r ≡ index + indentation (drop index (now (front .entry))) ⌝ }
-{
-    let mut i = index;
-    while i < front.len() {
-        if front[i] != b' ' {
-            return i;
-        }
-        i += 1;
-    }
-    i
-}
 
 // Whether the last line taken has no bytes.
 fn ends_empty(text: &[u8], start: usize, stop: usize) -> bool
@@ -91,7 +77,7 @@ fn flow_length(front: &[u8], index: usize) -> usize
 {
     let first = line_end(front, index);
     let lines = count_lines(front, first, true);
-    if index < indent_end(front, index) {
+    if index < inside(front, index) {
         return (6 + lines) * EVENT_LENGTH + LAST_LENGTH;
     }
     (4 + lines) * EVENT_LENGTH + LAST_LENGTH
@@ -108,7 +94,7 @@ fn mark_flow(text: &[u8], front: &[u8], index: usize, exit: usize, out: &mut [u8
         at: 0,
     };
     let entered = mark(text, pen, HTML_FLOW, index, out);
-    let indent = indent_end(front, index);
+    let indent = inside(front, index);
     let spaced = mark_some(text, entered, HTML_FLOW_DATA, index, indent, out);
     let first = line_end(front, index);
     let begun = mark_pair(text, spaced, HTML_FLOW_DATA, indent, first, out);

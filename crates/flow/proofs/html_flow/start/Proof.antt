@@ -1,6 +1,7 @@
-use mathlib.Core.Path.{sym, _∙_, ap}
+use mathlib.Core.Path.{_≡_, sym, _∙_, ap}
 use mathlib.Core.List.{[]}
 use Prim.Native.Nat.{_<_, _≤_}
+use native.Mathlib.Omega.{arith}
 use lib.ListN.{drop}
 use Rattle.rules.specs.Lines.{line}
 use Rattle.rules.specs.Block.{indentation, kindAt}
@@ -14,7 +15,7 @@ inside-requires c κs = search needs
 
 returns : tie.Need-returns
 returns c = let a = c .before .before .before .args in
-    let e = c .before .inside .ensures in
+    let e : c .before .inside .result ≡ indentation (a .line .now) = c .before .inside .ensures ∙ omega arith in
     let h : 3 < indentation (a .line .now) = rw (← e) (c .if1 .taken) in
     sym (too-deep (a .rules) (line (a .flag) [] (a .line .now)) h)
 
@@ -23,7 +24,7 @@ before-requires c κs = search needs
 
 returns-2 : tie.Need-returns-2
 returns-2 c = let a = c .before .before .before .before .args in
-    let e = c .before .before .inside .ensures in
+    let e : c .before .before .inside .result ≡ indentation (a .line .now) = c .before .before .inside .ensures ∙ omega arith in
     let h : indentation (a .line .now) ≤ 3 = rw (← e) (c .before .if1 .left) in
     c .before2 .ensures ∙ ap (λ n. kindAt (a .rules) (a .flag) (drop n (a .line .now))) e ∙ sym (not-deep (a .rules) (line (a .flag) [] (a .line .now)) h)
 

@@ -1,23 +1,22 @@
-use mathlib.Core.Path.{_≡_, sym, _∙_}
+use mathlib.Core.Path.{_≡_, refl, sym, _∙_}
 use Prim.Native.Nat.{_-_}
-use native.Mathlib.Omega.{arith}
 use lib.Dec.{eqb}
 use lib.ListN.{length}
 use borrow.Author.Tests.{eq-eqb, ne-eqb}
-use Rattle.lexical.specs.Text.{byte, run}
+use Rattle.lexical.specs.Text.{byte}
 use Rattle.lexical.proofs.Run.{runEnd, run-on, run-stop, run-over}
 use borrow.Author.Needs.{needs}
 use Rattle.flow.proofs.partial_space_or_tab.inside.Statement.{statement}
 use Rattle.flow.proofs.partial_space_or_tab.inside.Tie as tie
 
 abbrev Inv-loop : tie.InvT-loop
-Inv-loop line i₀ i = runEnd (λ b. eqb b (byte " ")) line i ≡ run (λ b. eqb b (byte " ")) line
+Inv-loop line index i₀ i = runEnd (λ b. eqb b (byte " ")) line i ≡ runEnd (λ b. eqb b (byte " ")) line index
 
 abbrev μ-loop : tie.MeasureT-loop
-μ-loop line i₀ i = length line - i
+μ-loop line index i₀ i = length line - i
 
 loop-holds : tie.Need-loop-holds Inv-loop μ-loop
-loop-holds c = omega arith
+loop-holds c = refl
 
 shared-slice-read-if1 : tie.Need-shared-slice-read-if1 Inv-loop μ-loop
 shared-slice-read-if1 c = search needs

@@ -15,8 +15,8 @@ line-end-requires c κs = search needs
 count-lines-requires : tie.Need-count-lines-requires
 count-lines-requires c κs = let a = c .before .before .args in let pre = c .before .before .pre in (omega (arith, c .line-end .ensures, first-within (a .front .now) (a .index) (pre .0)), pre .1)
 
-indent-end-requires : tie.Need-indent-end-requires
-indent-end-requires c κs = search needs
+inside-requires : tie.Need-inside-requires
+inside-requires c κs = search needs
 
 add-result : tie.Need-add-result
 unfolding limit
@@ -34,8 +34,8 @@ returns : tie.Need-returns
 returns c =
     let a = c .before .before .before .before .before .args in
     let first = c .before .before .before .line-end .result in
-    let indent = c .before .indent-end .result in
-    omega (arith, c .before .before .count-lines .ensures .0, flow-piece-count (a .front .now) (a .index) 0 indent first first (c .before .indent-end .ensures) (c .before .before .before .line-end .ensures) refl, ap length (some 3 (a .index) indent (c .if1 .taken)))
+    let indent = c .before .inside .result in
+    omega (arith, c .before .before .count-lines .ensures .0, flow-piece-count (a .front .now) (a .index) 0 indent first first (c .before .inside .ensures) (c .before .before .before .line-end .ensures) refl, ap length (some 3 (a .index) indent (c .if1 .taken)))
 
 add-result-3 : tie.Need-add-result-3
 unfolding limit
@@ -53,8 +53,8 @@ returns-2 : tie.Need-returns-2
 returns-2 c =
     let a = c .before .before .before .before .before .args in
     let first = c .before .before .before .line-end .result in
-    let indent = c .before .indent-end .result in
-    omega (arith, c .before .before .count-lines .ensures .0, flow-piece-count (a .front .now) (a .index) 0 indent first first (c .before .indent-end .ensures) (c .before .before .before .line-end .ensures) refl, ap length (none 3 (a .index) indent (c .if1 .left)))
+    let indent = c .before .inside .result in
+    omega (arith, c .before .before .count-lines .ensures .0, flow-piece-count (a .front .now) (a .index) 0 indent first first (c .before .inside .ensures) (c .before .before .before .line-end .ensures) refl, ap length (none 3 (a .index) indent (c .if1 .left)))
 
 pub flow-length-spec : {M : Type 1} → statement M
 flow-length-spec =
@@ -62,7 +62,7 @@ flow-length-spec =
     (tie.spec
     line-end-requires
     count-lines-requires
-    indent-end-requires
+    inside-requires
     add-result
     mul-result
     add-result-2

@@ -19,16 +19,16 @@ mark-requires c κs =
       omega (arith, pre .1, flow-piece-count (a .front .now) (a .index) (a .exit) _ _ _ refl refl refl),
     )
 
-indent-end-requires : tie.Need-indent-end-requires
-indent-end-requires c κs = search needs
+inside-requires : tie.Need-inside-requires
+inside-requires c κs = search needs
 
 mark-some-requires : tie.Need-mark-some-requires
 mark-some-requires c κs =
     let a = c .before .before .before .before .before .before .before .before .before .before .args in
     let pre = c .before .before .before .before .before .before .before .before .before .before .pre in
     let m = c .before .before .before .before .mark .ensures in
-    let indent = c .before .indent-end .result in
-    let n = c .before .indent-end .ensures in
+    let indent = c .before .inside .result in
+    let n = c .before .inside .ensures in
     let w = first-within (a .front .now) (a .index) (pre .0 .1) in
     let v = indent-within (a .front .now) (a .index) (a .exit) indent _ _ n refl refl in (
       ready-on (m .0) (pre .0 .0) (omega (arith, m .1)) (omega arith),
@@ -47,9 +47,9 @@ mark-pair-requires c κs =
     let pre = c .before .before .before .before .before .before .before .before .before .before .before .before .before .before .before .pre in
     let m = c .before .before .before .before .before .before .before .before .before .mark .ensures in
     let p = c .before .before .before .before .mark-some .ensures in
-    let indent = c .before .before .before .before .before .before .indent-end .result in
+    let indent = c .before .before .before .before .before .before .inside .result in
     let first = c .before .line-end .result in
-    let n = c .before .before .before .before .before .before .indent-end .ensures in
+    let n = c .before .before .before .before .before .before .inside .ensures in
     let f = c .before .line-end .ensures in
     let w = first-within (a .front .now) (a .index) (pre .0 .1) in
     let v = indent-within (a .front .now) (a .index) (a .exit) indent first first n f refl in (
@@ -70,7 +70,7 @@ mark-rest-requires c κs =
     let m = c .before .before .before .before .before .before .before .before .before .before .before .before .before .mark .ensures in
     let p = c .before .before .before .before .before .before .before .before .mark-some .ensures in
     let q = c .before .before .before .mark-pair .ensures in
-    let n = c .before .before .before .before .before .before .before .before .before .before .indent-end .ensures in
+    let n = c .before .before .before .before .before .before .before .before .before .before .inside .ensures in
     let f = c .before .before .before .before .before .line-end .ensures in
     let w = first-within (a .front .now) (a .index) (pre .0 .1) in (
       ready-on (q .0) (pre .0 .0) (omega arith) (omega (arith, q .1, f, w)),
@@ -90,7 +90,7 @@ returns c =
     let p = c .before .before .before .before .before .before .before .before .before .before .before .mark-some .ensures in
     let q = c .before .before .before .before .before .before .mark-pair .ensures in
     from-start (c .before .before .before .before .before .before .before .before .before .before .before .before .before .before .before .before .before .before .start .result) (c .before .before .before .before .before .before .before .before .before .before .before .before .before .before .before .before .before .before .start .ensures)
-    (renamed _ (flow-piece (a .front .now) (a .index) (a .exit) _ _ _ (c .before .before .before .before .before .before .before .before .before .before .before .before .before .indent-end .ensures) (c .before .before .before .before .before .before .before .before .line-end .ensures) (q .1)) (and-then (m .0) (and-then (p .0) (and-then (q .0) (c .before .before .mark-rest .ensures)))))
+    (renamed _ (flow-piece (a .front .now) (a .index) (a .exit) _ _ _ (c .before .before .before .before .before .before .before .before .before .before .before .before .before .inside .ensures) (c .before .before .before .before .before .before .before .before .line-end .ensures) (q .1)) (and-then (m .0) (and-then (p .0) (and-then (q .0) (c .before .before .mark-rest .ensures)))))
 
 pub mark-flow-spec : {M : Type 1} → statement M
 mark-flow-spec =
@@ -98,7 +98,7 @@ mark-flow-spec =
     (tie.spec
     start-requires
     mark-requires
-    indent-end-requires
+    inside-requires
     mark-some-requires
     line-end-requires
     mark-pair-requires
