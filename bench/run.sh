@@ -4,7 +4,7 @@
 #     bench/run.sh
 #
 # It needs rustc and cc, and target/staticlib/libforingamo.a, which `rt staticlib foringamo` builds where it is not there. Where the Rust crate's sources are not in
-# ../shared/docs/src, the library is measured alone.
+# $FORINGAMO_RUST_SOURCES, or where that is not set in ../shared/docs/src, the library is measured alone.
 cd "$(dirname "$0")/.." || exit 1
 archive=target/staticlib/libforingamo.a
 built=target/bench
@@ -22,11 +22,12 @@ mkdir -p "$built" || exit 1
 
 options=(--edition 2021 -O -C codegen-units=1 -D warnings --check-cfg 'cfg(reference)')
 with=()
-if [ -d ../shared/docs/src ]; then
+sources=${FORINGAMO_RUST_SOURCES:-../shared/docs/src}
+if [ -d "$sources/src" ]; then
     compare/build.sh "$built" || exit 1
     with=(--cfg reference --extern "reference=$built/libreference.rlib")
 else
-    echo 'there is no ../shared/docs/src: the library is measured alone'
+    echo "the Rust crate's files are not in $sources: the library is measured alone"
 fi
 rustc "${options[@]}" --crate-type rlib -L "$(dirname "$archive")" --out-dir "$built" rust/foringamo.rs &&
     rustc "${options[@]}" "${with[@]}" --extern "foringamo=$built/libforingamo.rlib" -o "$built/compare" bench/compare.rs &&

@@ -5,6 +5,8 @@
 #
 # FOLDER is target/compare under the repository's root where none is given.
 # With --debug the Rust's debug assertions and overflow checks are on.
+# The Rust crate's files stand in $FORINGAMO_RUST_SOURCES/src; where the variable
+# is not set, in shared/docs/src/src beside the repository.
 set -eu
 
 flags="-O"
@@ -13,11 +15,16 @@ if [ "${1:-}" = "--debug" ]; then
     shift
 fi
 
-here=$(dirname "$0")
-out=${1:-$here/../target/compare}
-mkdir -p "$out"
+top=$(cd "$(dirname "$0")/.." && pwd)
+sources=$(cd "${FORINGAMO_RUST_SOURCES:-$top/../shared/docs/src}/src" && pwd)
+out=${1:-$top/target/compare}
+# A folder with links to the programs' files and, as markdown/, to the Rust crate's.
+rm -rf "$out/src"
+mkdir -p "$out/src"
 out=$(cd "$out" && pwd)
-cd "$here"
+ln -s "$top"/compare/src/*.rs "$out/src/"
+ln -s "$sources" "$out/src/markdown"
+cd "$out"
 
 build() {
     # One unit, so one job.

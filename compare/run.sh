@@ -5,7 +5,8 @@
 #
 # FILE is target/staticlib/libforingamo.a where none is given, and is then made first. The seed is 1 and the count of random texts 1,000,000 where none is
 # given; the head of compare/src/differ.rs tells what is compared. The short form takes about half a minute on two cores, --long about three minutes.
-# Where rustc or the crate's files are not there it says so, and nothing is compared.
+# The crate's files stand in $FORINGAMO_RUST_SOURCES, in ../shared/docs/src where that is not set. Where they or rustc are not there its last lines say 'not
+# compared'.
 cd "$(dirname "$0")/.." || exit 1
 
 # ends MESSAGE PASSED-AND-FAILED STATUS
@@ -15,8 +16,9 @@ ends() {
     exit "$3"
 }
 
-command -v rustc >/dev/null || ends "no rustc, so nothing is compared" "0 passed, 0 failed" 0
-[ -d ../shared/docs/src/src ] || ends "the Rust crate's files are not in ../shared/docs/src, so nothing is compared" "0 passed, 0 failed" 0
+sources=${FORINGAMO_RUST_SOURCES:-../shared/docs/src}
+command -v rustc >/dev/null || ends "there is no rustc: not compared" "0 passed, 0 failed" 0
+[ -d "$sources/src" ] || ends "the Rust crate's files are not in $sources: not compared" "0 passed, 0 failed" 0
 
 archive=target/staticlib/libforingamo.a
 if [ "${1:-}" = --archive ]; then

@@ -1,12 +1,12 @@
 //! The crate's constructs, and a stand-in for the blank-line check.
 
-#[path = "../../../shared/docs/src/src/construct/html_flow.rs"]
+#[path = "markdown/construct/html_flow.rs"]
 pub mod html_flow;
-#[path = "../../../shared/docs/src/src/construct/html_text.rs"]
+#[path = "markdown/construct/html_text.rs"]
 pub mod html_text;
-#[path = "../../../shared/docs/src/src/construct/partial_non_lazy_continuation.rs"]
+#[path = "markdown/construct/partial_non_lazy_continuation.rs"]
 pub mod partial_non_lazy_continuation;
-#[path = "../../../shared/docs/src/src/construct/partial_space_or_tab.rs"]
+#[path = "markdown/construct/partial_space_or_tab.rs"]
 pub mod partial_space_or_tab;
 
 /// Stand-in: skips spaces and tabs, then succeeds at a line ending or the end.

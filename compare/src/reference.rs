@@ -1,8 +1,8 @@
 //! The reference: `html_text::start` and `html_flow::start` of the crate
 //! markdown 1.0.0 (MIT), driven by the crate's own tokenizer.
 //!
-//! The crate's files are compiled unchanged from shared/docs/src, which lies
-//! beside the repository. What they use and the folder does not hold is a
+//! The crate's files are compiled unchanged: build.sh puts their folder beside
+//! these files as markdown/. What they use and that folder does not hold is a
 //! stand-in: `state`, `message`, `resolve`, `unist`, `options`,
 //! `util::location`, `util::skip` and `construct::blank_line`.
 //!
@@ -12,16 +12,16 @@
 extern crate alloc;
 
 #[allow(dead_code)]
-#[path = "../../../shared/docs/src/src/event.rs"]
+#[path = "markdown/event.rs"]
 mod event;
 #[allow(dead_code)]
-#[path = "../../../shared/docs/src/src/parser.rs"]
+#[path = "markdown/parser.rs"]
 mod parser;
 #[allow(dead_code)]
-#[path = "../../../shared/docs/src/src/subtokenize.rs"]
+#[path = "markdown/subtokenize.rs"]
 mod subtokenize;
 #[allow(dead_code)]
-#[path = "../../../shared/docs/src/src/tokenizer.rs"]
+#[path = "markdown/tokenizer.rs"]
 mod tokenizer;
 
 mod construct;

@@ -1,13 +1,13 @@
 //! The crate's utilities, and stand-ins for two that no scan calls.
 
 #[allow(dead_code)]
-#[path = "../../../shared/docs/src/src/util/constant.rs"]
+#[path = "markdown/util/constant.rs"]
 pub mod constant;
 #[allow(dead_code)]
-#[path = "../../../shared/docs/src/src/util/edit_map.rs"]
+#[path = "markdown/util/edit_map.rs"]
 pub mod edit_map;
 #[allow(dead_code)]
-#[path = "../../../shared/docs/src/src/util/slice.rs"]
+#[path = "markdown/util/slice.rs"]
 pub mod slice;
 
 /// Stand-in: places for MDX, which is left out.
