@@ -4,7 +4,7 @@
 #     compare/run.sh [--archive FILE] [--seed N] [--count N | --long]
 #
 # FILE is target/staticlib/libforingamo.a where none is given, and is then made first. The seed is 1 and the count of random texts 1,000,000 where none is
-# given; the head of compare/src/differ.rs tells what is compared. The short form takes about half a minute on two cores, --long about three minutes.
+# given; the head of compare/src/differ.rs tells what is compared. The short form takes about half a minute on two cores, --long about two (docs/DIFFERENCES.md).
 # Where rustc or the crate's files are not there it says so, and nothing is compared.
 cd "$(dirname "$0")/.." || exit 1
 
