@@ -12,7 +12,7 @@
 //!     --events                adds the events to each answer, in words
 //!     --self-test             compares known answers, status 1 where one differs
 //!     --random COUNT [SEED]   compares random scans with the shape that
-//!                             shared/01-scope.md gives to stops and events
+//!                             01, Reading rules, gives to stops and events
 
 #[allow(dead_code)]
 mod generator;

@@ -1,4 +1,4 @@
-//! Random scans, compared with what shared/01-scope.md says of stops, carry
+//! Random scans, compared with what 01, Reading rules, says of stops, carry
 //! and events where the kind and the place of a closer are known.
 
 use crate::generator::Random;

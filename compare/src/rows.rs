@@ -1,4 +1,4 @@
-//! Known answers: the rows of shared/01-scope.md, and points and traces that
+//! Known answers: the rows of 01, Corners, and points and traces that
 //! are easy to get wrong.
 
 use crate::{to_hex, words};
