@@ -3,8 +3,8 @@
 #
 #     bench/run.sh
 #
-# It needs rustc and cc, and target/staticlib/libforingamo.a, which `rt staticlib foringamo` builds where it is not there. Where the Rust crate's sources are not in
-# $FORINGAMO_RUST_SOURCES, or where that is not set in ../shared/docs/src, the library is measured alone.
+# It needs rustc and cc, and target/staticlib/libforingamo.a, which scripts/build.sh builds where it is not there or is older than its sources. Where the Rust crate's
+# sources are not in $FORINGAMO_RUST_SOURCES, or where that is not set in ../shared/docs/src, the library is measured alone.
 cd "$(dirname "$0")/.." || exit 1
 archive=target/staticlib/libforingamo.a
 built=target/bench
@@ -14,21 +14,17 @@ command -v rustc >/dev/null || {
     exit 1
 }
 mkdir -p "$built" || exit 1
-[ -f "$archive" ] || rt staticlib foringamo >"$built/staticlib.log" 2>&1
-[ -f "$archive" ] || {
-    echo "there is no $archive, and rt did not build it: $built/staticlib.log" >&2
-    exit 1
-}
+scripts/build.sh archive >&2 || exit 1
 
-options=(--edition 2021 -O -C codegen-units=1 -D warnings --check-cfg 'cfg(reference)')
-with=()
+options=(--edition 2021 -O -C codegen-units=1 -D warnings)
+with=(--check-cfg 'cfg(reference)')
 sources=${FORINGAMO_RUST_SOURCES:-../shared/docs/src}
 if [ -d "$sources/src" ]; then
     compare/build.sh "$built" || exit 1
-    with=(--cfg reference --extern "reference=$built/libreference.rlib")
+    with+=(--cfg reference --extern "reference=$built/libreference.rlib")
 else
     echo "the Rust crate's files are not in $sources: the library is measured alone"
 fi
-rustc "${options[@]}" --crate-type rlib -L "$(dirname "$archive")" --out-dir "$built" rust/foringamo.rs &&
+rustc "${options[@]}" --crate-name foringamo --crate-type rlib -L "$(dirname "$archive")" --out-dir "$built" rust/src/lib.rs &&
     rustc "${options[@]}" "${with[@]}" --extern "foringamo=$built/libforingamo.rlib" -o "$built/compare" bench/compare.rs &&
     "$built/compare"

@@ -1,10 +1,11 @@
 /*
- * Withholds from a bulletin, scans it for a block and an inline piece, and traces a scan.
+ * Counts the lines of a bulletin, withholds from it, scans it for a block and an inline piece, and traces a scan.
  *
  *     rt staticlib foringamo
  *     cc -Iinclude -o target/example examples/example.c target/staticlib/libforingamo.a && target/example
  */
 #include <stdio.h>
+#include <stdlib.h>
 #include <string.h>
 
 #include "foringamo.h"
@@ -13,10 +14,21 @@ int main(void) {
     const char *source = "door <!-- x -->9\n<div>\nold\n\nok";
     const uint8_t *bulletin = (const uint8_t *)source;
     size_t length = strlen(source);
-    const uint8_t flags[5] = {0}; /* one for each line */
     uint8_t out[100];
 
-    foringamo_shown shown = foringamo_withhold(bulletin, length, flags, sizeof flags, out, sizeof out);
+    /* A flag for each line, all 0: neither lazy nor interrupt. */
+    size_t lines = foringamo_count_lines(bulletin, length);
+    uint8_t *flags = calloc(lines, 1);
+    if (flags == NULL) {
+        return 1;
+    }
+    printf("%zu lines\n", lines);
+
+    /* The line `<div>` begins at 17. */
+    foringamo_shown shown = foringamo_withhold(bulletin, length, flags, lines, out, sizeof out);
+    foringamo_block block = foringamo_block_scan(bulletin, length, flags, lines, 17);
+    free(flags);
+
     if (shown.refusal != 0) {
         printf("refused %d\n", shown.refusal);
         return 1;
@@ -25,8 +37,6 @@ int main(void) {
     fwrite(out, 1, shown.length, stdout);
     printf("\n");
 
-    /* The line `<div>` begins at 17. */
-    foringamo_block block = foringamo_block_scan(bulletin, length, flags, sizeof flags, 17);
     if (block.refusal != 0) {
         printf("refused %d\n", block.refusal);
         return 1;

@@ -4,7 +4,7 @@
  * A slice is a pointer and a length in bytes. With length 0 nothing is read or written behind the pointer; it may be any pointer but NULL. An output buffer
  * shares no byte with another slice. Nothing is kept when a function returns, and none of them allocates.
  *
- * Every result comes back by value and begins with its refusal:
+ * Every result comes back by value; but for the count of lines, which refuses nothing, it begins with its refusal:
  *
  *     0  not refused
  *     1  the bulletin or text has over 16,000 bytes
@@ -20,14 +20,16 @@
  * Of 1 to 7 the first that applies is given. On a refusal every other field is 0 but the carry, which is the one passed in, and no byte of the output buffer
  * changes. On an answer its bytes past those written stay as they are.
  *
- * A bulletin has one line more than it has line endings (LF, CR LF, or CR), and a flag for each line: 1 lazy, 2 interrupt, 3 both, 0 neither. An index and a
- * stop count bytes from 0; a stop is behind the last byte taken.
+ * A bulletin has one line more than it has line endings (LF, CR LF, or CR), and a flag for each line: 1 lazy, 2 interrupt, 3 both, 0 neither;
+ * foringamo_count_lines says how many. An index and a stop count bytes from 0; a stop is behind the last byte taken.
  */
 #ifndef FORINGAMO_H
 #define FORINGAMO_H
 
 #include <stddef.h>
 #include <stdint.h>
+
+#define FORINGAMO_VERSION "0.1.0"
 
 #ifdef __cplusplus
 extern "C" {
@@ -74,6 +76,9 @@ typedef struct {
     size_t length; /* bytes written */
     size_t pieces; /* blocks and inline pieces withheld, together */
 } foringamo_shown;
+
+/* The number of lines of a text of any length: as many flags as a bulletin takes. An empty text has one line. */
+size_t foringamo_count_lines(const uint8_t *text, size_t text_len);
 
 /* The block that the line at the index opens. Refusals 1, 2, 3, 4. */
 foringamo_block foringamo_block_scan(const uint8_t *bulletin, size_t bulletin_len, const uint8_t *flags, size_t flags_len, size_t index);

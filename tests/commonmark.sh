@@ -3,8 +3,8 @@
 #
 #     tests/commonmark.sh
 #
-# It links target/staticlib/libforingamo.a, which `rt staticlib foringamo` builds where it is not there. Where there is no cc, a line says what is left out. A line
-# for each check that fails, then how many examples were run; the last line is 'N passed, M failed'.
+# It links target/staticlib/libforingamo.a, which scripts/build.sh builds where it is not there or is older than its sources; a line says so. Where there is no cc, a
+# line says what is left out. A line for each check that fails, then how many examples were run; the last line is 'N passed, M failed'.
 cd "$(dirname "$0")/.." || exit 1
 archive=target/staticlib/libforingamo.a
 built=target/commonmark
@@ -17,10 +17,8 @@ ends() {
 }
 
 mkdir -p "$built" || exit 1
-[ -f "$archive" ] || rt staticlib foringamo >"$built/staticlib.log" 2>&1
-
-if [ ! -f "$archive" ]; then
-    echo "there is no $archive, and rt did not build it: $built/staticlib.log"
+if ! scripts/build.sh archive 2>&1; then
+    echo "there is no $archive of these sources to link"
     ends 0 1
 fi
 if ! command -v cc >/dev/null; then

@@ -1,5 +1,5 @@
 /*
- * The C interface: the layout of its structs, every refusal, and what becomes of the output buffer. tests/interface.sh builds and runs it.
+ * The C interface: the layout of its structs, the count of lines, every refusal, and what becomes of the output buffer. tests/interface.sh builds and runs it.
  * A line for each check that fails; the last line is 'N passed, M failed'.
  */
 #include <stdio.h>
@@ -77,7 +77,7 @@ static int is_shown(foringamo_shown r, int refusal, size_t length, size_t pieces
 
 /* One byte above the limit. */
 static uint8_t big[16001];
-static const uint8_t zeros[16001];
+static const uint8_t zeros[16002];
 static const uint8_t wrong[] = {4, 4};
 
 static void layout(void) {
@@ -105,6 +105,74 @@ static void layout(void) {
     CHECK(offsetof(foringamo_shown, refusal) == 0);
     CHECK(offsetof(foringamo_shown, length) == 8);
     CHECK(offsetof(foringamo_shown, pieces) == 16);
+}
+
+/* As withholding sees it: with so many flags a bulletin is not refused by their count, with one fewer or more it is. */
+static int takes_flags(const uint8_t *text, size_t length, size_t lines) {
+    static uint8_t shown[16000];
+    return foringamo_withhold(text, length, zeros, lines, shown, sizeof shown).refusal == 0 &&
+           foringamo_withhold(text, length, zeros, lines - 1, shown, sizeof shown).refusal == 2 &&
+           foringamo_withhold(text, length, zeros, lines + 1, shown, sizeof shown).refusal == 2;
+}
+
+static int has_lines(const uint8_t *text, size_t length, size_t lines) {
+    return foringamo_count_lines(text, length) == lines && takes_flags(text, length, lines);
+}
+
+static void count_lines(void) {
+    CHECK(has_lines(NOWHERE, 0, 1));
+    CHECK(has_lines(TEXT(""), 1));
+    CHECK(has_lines(TEXT("a"), 1));
+    CHECK(has_lines(TEXT("a\nb"), 2));
+    CHECK(has_lines(TEXT("a\r\nb"), 2));
+    CHECK(has_lines(TEXT("a\rb"), 2));
+    CHECK(has_lines(TEXT("a\n\rb"), 3));
+    CHECK(has_lines(TEXT("a\r\r\nb"), 3));
+    CHECK(has_lines(TEXT("a\nb\r\nc\rd"), 4));
+
+    /* At the end there is a last, empty line. */
+    CHECK(has_lines(TEXT("\n"), 2));
+    CHECK(has_lines(TEXT("\r"), 2));
+    CHECK(has_lines(TEXT("\r\n"), 2));
+    CHECK(has_lines(TEXT("a\n"), 2));
+    CHECK(has_lines(TEXT("a\r\n"), 2));
+    CHECK(has_lines(TEXT("a\r"), 2));
+    CHECK(has_lines(TEXT("\n\r\n\r"), 4));
+
+    /* Nothing else ends a line: neither form feed, line tabulation and NUL, nor U+0085 and U+2028. */
+    CHECK(has_lines(TEXT("a\f\v\0b\xc2\x85\xe2\x80\xa8"), 1));
+    for (int byte = 0; byte < 256; byte++) {
+        uint8_t one = (uint8_t)byte;
+        CHECK(has_lines(&one, 1, byte == '\n' || byte == '\r' ? 2 : 1));
+    }
+
+    /* A CR and an LF at each place of some bytes that are read eight by eight. */
+    for (size_t cr = 0; cr < 40; cr++) {
+        for (size_t lf = 0; lf < 40; lf++) {
+            uint8_t bytes[40];
+            memset(bytes, 'a', sizeof bytes);
+            bytes[cr] = '\r';
+            bytes[lf] = '\n';
+            CHECK(has_lines(bytes, sizeof bytes, cr == lf || cr + 1 == lf ? 2 : 3));
+        }
+    }
+
+    /* The longest bulletin, and above: every length is counted. */
+    CHECK(has_lines(big, 16000, 1));
+    CHECK(foringamo_count_lines(big, sizeof big) == 1);
+    static uint8_t long_text[1000001];
+    memset(long_text, '\n', sizeof long_text);
+    CHECK(foringamo_count_lines(long_text, 16000) == 16001);
+    CHECK(takes_flags(long_text, 16000, 16001));
+    CHECK(foringamo_count_lines(long_text, 16001) == 16002);
+    CHECK(foringamo_count_lines(long_text, sizeof long_text) == sizeof long_text + 1);
+    memset(long_text, '\r', sizeof long_text);
+    CHECK(foringamo_count_lines(long_text, sizeof long_text) == sizeof long_text + 1);
+    for (size_t i = 1; i < sizeof long_text; i += 2) {
+        long_text[i] = '\n';
+    }
+    CHECK(foringamo_count_lines(long_text, sizeof long_text - 1) == 500001);
+    CHECK(foringamo_count_lines(long_text, sizeof long_text) == 500002);
 }
 
 static void block_scan(void) {
@@ -285,6 +353,7 @@ static void withhold(void) {
 int main(void) {
     memset(big, 'a', sizeof big);
     layout();
+    count_lines();
     block_scan();
     inline_scan();
     block_trace();

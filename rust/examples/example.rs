@@ -1,8 +1,7 @@
-//! Withholds from a bulletin, scans it for a block and an inline piece, and traces a scan.
+//! Counts the lines of a bulletin, withholds from it, scans it for a block and an inline piece, and traces a scan.
 //!
 //!     rt staticlib foringamo
-//!     rustc --edition 2021 --crate-type rlib -L target/staticlib --out-dir target rust/foringamo.rs
-//!     rustc --edition 2021 --extern foringamo=target/libforingamo.rlib -o target/example examples/example.rs && target/example
+//!     CARGO_TARGET_DIR=target/cargo cargo run --offline --manifest-path rust/Cargo.toml --example example
 #![forbid(unsafe_code)]
 
 use foringamo::{Inline, Record, Refusal};
@@ -10,8 +9,11 @@ use std::io::Write;
 
 fn run() -> Result<(), Refusal> {
     let bulletin = b"door <!-- x -->9\n<div>\nold\n\nok";
-    let flags = [0; 5]; // one for each line
     let mut out = [0; 100];
+
+    // A flag for each line, all 0: neither lazy nor interrupt.
+    let flags = vec![0; foringamo::count_lines(bulletin)];
+    println!("{} lines", flags.len());
 
     let shown = foringamo::withhold(bulletin, &flags, &mut out)?;
     println!("{} pieces withheld, {} bytes shown:", shown.pieces, shown.length);
@@ -40,12 +42,13 @@ fn run() -> Result<(), Refusal> {
     let mut number = 0;
     // A refusal: there are no more.
     while let Ok(record) = foringamo::read_trace(&out[..length], number) {
+        let kind = record.number();
         match record {
-            Record::Event { kind, line, column, index, vs } => {
-                println!("{kind} at line {line}, column {column}, index {index}, vs {vs}")
+            Record::Enter(_, p) | Record::Exit(_, p) => {
+                println!("{kind} at line {}, column {}, index {}, vs {}", p.line, p.column, p.index, p.vs)
             }
-            Record::LastInline { stop, carry } => println!("13 with stop {stop}, carry {carry}"),
-            Record::LastBlock { stop, kind } => println!("14 with stop {stop}, block kind {kind}"),
+            Record::LastInline { stop, carry } => println!("{kind} with stop {stop}, carry {carry}"),
+            Record::LastBlock { stop, kind: block } => println!("{kind} with stop {stop}, block kind {block}"),
         }
         number += 1;
     }
@@ -54,7 +57,7 @@ fn run() -> Result<(), Refusal> {
 
 fn main() {
     if let Err(refusal) = run() {
-        println!("refused {}", refusal.number());
+        println!("refused {}: {refusal}", refusal.number());
         std::process::exit(1);
     }
 }

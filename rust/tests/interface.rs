@@ -1,0 +1,191 @@
+//! Every answer and every refusal, through the package.
+#![forbid(unsafe_code)]
+
+use foringamo::{
+    block_scan, block_trace, count_lines, inline_scan, inline_trace, read_trace, withhold, Block, Inline, Kind, Name, Point, Record, Refusal, Shown, INTERRUPT,
+    LAZY, LIMIT,
+};
+
+const FILL: u8 = 0xee;
+
+// A text one byte above the limit.
+fn long() -> Vec<u8> {
+    vec![b'a'; LIMIT + 1]
+}
+
+#[test]
+fn lines() {
+    for (text, lines) in [
+        (&b""[..], 1),
+        (b"a", 1),
+        (b"a\nb", 2),
+        (b"a\r\nb", 2),
+        (b"a\rb", 2),
+        (b"a\n\rb\r\nc\rd", 5),
+        (b"a\n", 2),
+        (b"a\r\n", 2),
+        (b"a\r", 2),
+    ] {
+        assert_eq!(count_lines(text), lines, "{text:?}");
+        let mut out = [0; 16];
+        assert!(withhold(text, &vec![0; lines], &mut out).is_ok(), "{text:?}");
+        assert_eq!(withhold(text, &vec![0; lines + 1], &mut out), Err(Refusal::WrongCount), "{text:?}");
+        assert_eq!(withhold(text, &vec![0; lines - 1], &mut out), Err(Refusal::WrongCount), "{text:?}");
+    }
+    assert_eq!(count_lines(&vec![b'\n'; LIMIT + 1]), LIMIT + 2);
+}
+
+#[test]
+fn limit() {
+    let text = long();
+    let mut out = vec![0; text.len()];
+    assert_eq!(withhold(&text[..LIMIT], &[0], &mut out), Ok(Shown { length: LIMIT, pieces: 0 }));
+    assert_eq!(out[..LIMIT], text[..LIMIT]);
+    assert_eq!(withhold(&text, &[0], &mut out), Err(Refusal::TooLong));
+    assert_eq!(block_scan(&text, &[0], 0), Err(Refusal::TooLong));
+    assert_eq!(inline_scan(&text, 0, 0), Err(Refusal::TooLong));
+    assert_eq!(block_trace(&text, &[0], 0, &mut out), Err(Refusal::TooLong));
+    assert_eq!(inline_trace(&text, 0, 0, &mut out), Err(Refusal::TooLong));
+}
+
+#[test]
+fn withheld() {
+    let bulletin = b"door <!-- x -->9\n<div>\nold\n\nok";
+    let shown = b"door 9\n\n\nok";
+    for room in 0..=bulletin.len() {
+        let mut out = vec![FILL; room];
+        let got = withhold(bulletin, &[0; 5], &mut out);
+        if room < shown.len() {
+            assert_eq!(got, Err(Refusal::NoRoom));
+            assert!(out.iter().all(|&b| b == FILL));
+        } else {
+            assert_eq!(got, Ok(Shown { length: shown.len(), pieces: 2 }));
+            assert_eq!(&out[..shown.len()], shown);
+            assert!(out[shown.len()..].iter().all(|&b| b == FILL));
+        }
+    }
+    assert_eq!(withhold(b"", &[0], &mut []), Ok(Shown { length: 0, pieces: 0 }));
+    assert_eq!(withhold(b"", &[], &mut []), Err(Refusal::WrongCount));
+    assert_eq!(withhold(b"a", &[4], &mut []), Err(Refusal::WrongFlag));
+}
+
+#[test]
+fn blocks() {
+    for (text, kind, stop, closed) in [
+        (&b"<pre>\nx</pre>\ny"[..], Kind::Raw, 13, true),
+        (b"<!-- x\ny", Kind::Comment, 8, false),
+        (b"<?x?>", Kind::Instruction, 5, true),
+        (b"<!x>", Kind::Declaration, 4, true),
+        (b"<![CDATA[x]]>", Kind::Cdata, 13, true),
+        (b"<div>\n\nx", Kind::Basic, 5, false),
+        (b"<a>\nx", Kind::Complete, 5, false),
+    ] {
+        let flags = vec![0; count_lines(text)];
+        assert_eq!(block_scan(text, &flags, 0), Ok(Some(Block { kind, stop, closed })), "{text:?}");
+    }
+    assert_eq!(block_scan(b"x", &[0], 0), Ok(None));
+    assert_eq!(block_scan(b"x", &[0], 1), Err(Refusal::WrongIndex));
+    assert_eq!(block_scan(b"x", &[4], 0), Err(Refusal::WrongFlag));
+    assert_eq!(block_scan(b"x", &[0, 0], 0), Err(Refusal::WrongCount));
+
+    let complete = Block { kind: Kind::Complete, stop: 3, closed: false };
+    assert_eq!(block_scan(b"<a>", &[INTERRUPT], 0), Ok(None));
+    assert_eq!(block_scan(b"<a>", &[LAZY], 0), Ok(Some(complete)));
+    assert_eq!(block_scan(b"<a>", &[INTERRUPT | LAZY], 0), Ok(Some(complete)));
+}
+
+#[test]
+fn inlines() {
+    for carry in 0..=5 {
+        assert_eq!(inline_scan(b"<b>", 0, carry), Ok(Inline::Found { stop: 3, carry }));
+        assert_eq!(inline_scan(b"<b>", 1, carry), Ok(Inline::Missing { carry }));
+        assert_eq!(inline_scan(b"<b>", 3, carry), Ok(Inline::Missing { carry }));
+    }
+    assert_eq!(inline_scan(b"<![ATA[q]]>", 0, 2), Ok(Inline::Found { stop: 11, carry: 0 }));
+    assert_eq!(inline_scan(b"", 0, 0), Ok(Inline::Missing { carry: 0 }));
+    assert_eq!(inline_scan(b"<b>", 4, 0), Err(Refusal::WrongIndex));
+    assert_eq!(inline_scan(b"<b>", usize::MAX, 0), Err(Refusal::WrongIndex));
+    assert_eq!(inline_scan(b"<b>", 0, 6), Err(Refusal::WrongCarry));
+    assert_eq!(inline_scan(b"a\n \nb", 0, 0), Err(Refusal::BlankLine));
+}
+
+#[test]
+fn traces() {
+    let point = |line, column, index| Point { line, column, index, vs: 0 };
+    let mut out = [FILL; 64];
+
+    let length = inline_trace(b"<b>", 0, 0, &mut out).expect("not refused");
+    assert_eq!(length, 36);
+    assert!(out[length..].iter().all(|&b| b == FILL));
+    let records = [
+        Record::Enter(Name::HtmlText, point(1, 1, 0)),
+        Record::Enter(Name::HtmlTextData, point(1, 1, 0)),
+        Record::Exit(Name::HtmlTextData, point(1, 4, 3)),
+        Record::Exit(Name::HtmlText, point(1, 4, 3)),
+        Record::LastInline { stop: 3, carry: 0 },
+    ];
+    for (number, record) in records.into_iter().enumerate() {
+        assert_eq!(read_trace(&out[..length], number), Ok(record));
+    }
+    assert_eq!(read_trace(&out[..length], 5), Err(Refusal::CutOff));
+
+    let length = block_trace(b"<div>", &[0], 0, &mut out).expect("not refused");
+    let records = [
+        Record::Enter(Name::HtmlFlow, point(1, 1, 0)),
+        Record::Enter(Name::HtmlFlowData, point(1, 1, 0)),
+        Record::Exit(Name::HtmlFlowData, point(1, 6, 5)),
+        Record::Exit(Name::HtmlFlow, point(1, 6, 5)),
+        Record::LastBlock { stop: 5, kind: Kind::Basic.number() },
+    ];
+    for (number, record) in records.into_iter().enumerate() {
+        assert_eq!(read_trace(&out[..length], number), Ok(record));
+    }
+
+    let mut small = [FILL; 35];
+    assert_eq!(inline_trace(b"<b>", 0, 0, &mut small), Err(Refusal::NoRoom));
+    assert_eq!(block_trace(b"<div>", &[0], 0, &mut small), Err(Refusal::NoRoom));
+    assert_eq!(small, [FILL; 35]);
+}
+
+#[test]
+fn records() {
+    let names = [Name::HtmlFlow, Name::HtmlFlowData, Name::LineEnding, Name::HtmlText, Name::HtmlTextData, Name::SpaceOrTab];
+    let point = Point { line: 1, column: 2, index: 3, vs: 4 };
+    for kind in 0..=255 {
+        let got = read_trace(&[kind, 1, 0, 2, 0, 3, 0, 4], 0);
+        let expected = match kind {
+            1..=12 if kind % 2 == 1 => Ok(Record::Enter(names[usize::from(kind - 1) / 2], point)),
+            1..=12 => Ok(Record::Exit(names[usize::from(kind - 1) / 2], point)),
+            13 => Ok(Record::LastInline { stop: 1, carry: 2 }),
+            14 => Ok(Record::LastBlock { stop: 1, kind: 2 }),
+            _ => Err(Refusal::WrongKind),
+        };
+        assert_eq!(got, expected);
+        if let Ok(record) = got {
+            assert_eq!(record.number(), kind);
+        }
+    }
+    // The block kind of a trace is the byte there, whatever it is.
+    assert_eq!(read_trace(&[14, 0, 0, 255], 0), Ok(Record::LastBlock { stop: 0, kind: 255 }));
+}
+
+#[test]
+fn refusals() {
+    let all = [
+        Refusal::TooLong,
+        Refusal::WrongCount,
+        Refusal::WrongFlag,
+        Refusal::WrongIndex,
+        Refusal::WrongCarry,
+        Refusal::BlankLine,
+        Refusal::NoRoom,
+        Refusal::WrongKind,
+        Refusal::CutOff,
+    ];
+    for (number, refusal) in (1..).zip(all) {
+        assert_eq!(refusal.number(), number);
+        assert!(!refusal.to_string().is_empty());
+    }
+    let error: Box<dyn std::error::Error> = Box::new(Refusal::NoRoom);
+    assert_eq!(error.to_string(), "the output buffer is shorter than the output needs");
+}

@@ -1,0 +1,54 @@
+"""Loads the shared library that the argument names, as a program of another language does, and calls it. A line for each check that fails; the last line is
+'N passed, M failed'. tests/install.sh runs it."""
+
+import ctypes
+import sys
+from ctypes import c_char_p, c_size_t, c_uint8
+
+
+class Shown(ctypes.Structure):
+    _fields_ = [("refusal", c_uint8), ("length", c_size_t), ("pieces", c_size_t)]
+
+
+library = ctypes.CDLL(sys.argv[1])
+library.foringamo_count_lines.argtypes = [c_char_p, c_size_t]
+library.foringamo_count_lines.restype = c_size_t
+library.foringamo_withhold.argtypes = [c_char_p, c_size_t, c_char_p, c_size_t, c_char_p, c_size_t]
+library.foringamo_withhold.restype = Shown
+
+passed = 0
+failed = 0
+
+
+def check(what, got, expected):
+    global passed, failed
+    if got == expected:
+        passed += 1
+    else:
+        failed += 1
+        print(f"{what}: {got}, not {expected}")
+
+
+def lines(text):
+    return library.foringamo_count_lines(text, len(text))
+
+
+def withhold(bulletin, flags, room):
+    """The refusal, the number of pieces, the shown bytes, and whether the buffer past them is as before."""
+    out = ctypes.create_string_buffer(b"\xee" * room, room)
+    got = library.foringamo_withhold(bulletin, len(bulletin), flags, len(flags), out, room)
+    return got.refusal, got.pieces, out.raw[: got.length], out.raw[got.length :] == b"\xee" * (room - got.length)
+
+
+for text, count in [(b"", 1), (b"a", 1), (b"a\nb", 2), (b"a\r\nb", 2), (b"a\rb", 2), (b"a\n\rb\r\n", 4), (b"\n" * 20000, 20001)]:
+    check(f"lines of {text[:20]!r}", lines(text), count)
+
+bulletin = b"door <!-- x -->9\n<div>\nold\n\nok"
+flags = bytes(lines(bulletin))
+check("01's row", withhold(bulletin, flags, len(bulletin)), (0, 2, b"door 9\n\n\nok", True))
+check("no room", withhold(bulletin, flags, 10), (7, 0, b"", True))
+check("one flag too many", withhold(bulletin, flags + b"\0", 100), (2, 0, b"", True))
+check("16,001 bytes", withhold(b"a" * 16001, b"\0", 16001), (1, 0, b"", True))
+
+print(f"{passed} passed, {failed} failed")
+sys.exit(failed != 0)
