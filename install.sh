@@ -52,8 +52,8 @@ esac
 
 cd "$(dirname "$0")"
 version=$(cat VERSION)
-# The interface's number: callers that are linked already go on with a library that has the same.
-interface=${version%%.*}
+# The interface's number, the version's first two: callers that are linked already go on with a library that has the same.
+interface=${version%.*}
 
 scripts/build.sh archive
 scripts/build.sh program

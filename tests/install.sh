@@ -11,7 +11,7 @@ unset DESTDIR PKG_CONFIG_PATH PKG_CONFIG_LIBDIR PKG_CONFIG_SYSROOT_DIR LD_LIBRAR
 folder=$(mktemp -d) || exit 1
 trap 'rm -rf "$folder"' EXIT
 version=$(cat VERSION)
-interface=${version%%.*}
+interface=${version%.*}
 # Installed as it is, and to be moved to /opt/foringamo later.
 plain=$folder/plain
 staged=$folder/stage/opt/foringamo
