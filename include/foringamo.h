@@ -2,9 +2,11 @@
  * Raw HTML in bulletins: what it is, and what is shown without it.
  *
  * A slice is a pointer and a length in bytes. With length 0 nothing is read or written behind the pointer; it may be any pointer but NULL. An output buffer
- * shares no byte with another slice. Nothing is kept when a function returns, and none of them allocates.
+ * shares no byte with another slice, so `out` is never the bulletin itself. Any bytes are taken, valid UTF-8 or not, and NUL among them; what is written has no
+ * NUL at its end and is not escaped for HTML. Nothing is kept when a function returns, none of them allocates, and any number of threads may call them.
  *
- * Every result comes back by value; but for the count of lines, which refuses nothing, it begins with its refusal:
+ * Every result comes back by value; but for the count of lines, which refuses nothing, it begins with its refusal. Look at it first: a refusal also has kind 0
+ * or found 0, which without a refusal means that nothing was found.
  *
  *     0  not refused
  *     1  the bulletin or text has over 16,000 bytes
@@ -15,13 +17,23 @@
  *     6  the inline text has two line endings with only spaces, tabs or no bytes between
  *     7  the output buffer is shorter than the output needs
  *     8  reading a trace: a kind byte is 0 or above 14
- *     9  reading a trace: a record is cut off, or there are not so many
+ *     9  reading a trace: a record is cut off, or there are not so many (so a loop over all records ends with 9)
  *
  * Of 1 to 7 the first that applies is given. On a refusal every other field is 0 but the carry, which is the one passed in, and no byte of the output buffer
  * changes. On an answer its bytes past those written stay as they are.
  *
- * A bulletin has one line more than it has line endings (LF, CR LF, or CR), and a flag for each line: 1 lazy, 2 interrupt, 3 both, 0 neither;
- * foringamo_count_lines says how many. An index and a stop count bytes from 0; a stop is behind the last byte taken.
+ * A bulletin has one line more than it has line endings (LF, CR LF, or CR), also where it is empty or ends in one, and a flag for each line;
+ * foringamo_count_lines says how many. A flag tells what a Markdown parser knows of the line; without one, all flags are 0:
+ *
+ *     1  lazy: it lacks the marker of a block quote or list item that the lines before it are in
+ *     2  interrupt: the line before it belongs to a paragraph that it may go on
+ *     3  both
+ *
+ * An index and a stop count bytes from 0, in the slice passed in; a stop is behind the last byte taken. A block's stop is before the line ending behind it, and
+ * the next line begins behind that; for the empty last line the index is the length.
+ *
+ * Each call looks through its whole input for refusals, and reading a trace walks from its first record: to scan at every line, or to read every record, costs
+ * the square of the length. foringamo_withhold goes through a bulletin once.
  */
 #ifndef FORINGAMO_H
 #define FORINGAMO_H
@@ -35,10 +47,13 @@
 extern "C" {
 #endif
 
-/* The block that a line opens. */
+/*
+ * The block that a line opens. Its kinds: 1 raw (pre, script, style, textarea), 2 comment, 3 instruction, 4 declaration, 5 CDATA, 6 basic (a name such as div or
+ * table), 7 complete (any other tag that fills its line).
+ */
 typedef struct {
     uint8_t refusal;
-    uint8_t kind;   /* 1 raw, 2 comment, 3 instruction, 4 declaration, 5 CDATA, 6 basic, 7 complete; 0: none, stop 0 */
+    uint8_t kind;   /* 1 to 7; 0: none, stop 0 */
     uint8_t closed; /* 1: a closer was met, never for kinds 6 and 7; else 0 */
     size_t stop;
 } foringamo_block;
@@ -47,7 +62,7 @@ typedef struct {
 typedef struct {
     uint8_t refusal;
     uint8_t found; /* 1: found; 0: none, stop 0 */
-    uint8_t carry; /* letters of `CDATA[` counted so far, 0 to 5 */
+    uint8_t carry; /* letters of `CDATA[` counted so far, 0 to 5, as the Rust keeps them from one scan to the next */
     size_t stop;
 } foringamo_inline;
 
@@ -83,10 +98,13 @@ size_t foringamo_count_lines(const uint8_t *text, size_t text_len);
 /* The block that the line at the index opens. Refusals 1, 2, 3, 4. */
 foringamo_block foringamo_block_scan(const uint8_t *bulletin, size_t bulletin_len, const uint8_t *flags, size_t flags_len, size_t index);
 
-/* The inline piece at the index of a paragraph's text; none where the byte there is not `<`. Refusals 1, 4, 5, 6. */
+/*
+ * The inline piece at the index of a paragraph's text; none where the byte there is not `<`. Pass carry 0: one that is passed on from a scan before gives what
+ * the Rust gives, and a CDATA section may then be missed. Refusals 1, 4, 5, 6.
+ */
 foringamo_inline foringamo_inline_scan(const uint8_t *text, size_t text_len, size_t index, uint8_t carry);
 
-/* Writes the trace of a block scan. Refusals 1, 2, 3, 4, 7. */
+/* Writes the trace of a block scan: its events and its answer, as records. Where nothing is found the last record's stop is the index. Refusals 1, 2, 3, 4, 7. */
 foringamo_trace foringamo_block_trace(const uint8_t *bulletin, size_t bulletin_len, const uint8_t *flags, size_t flags_len, size_t index, uint8_t *out, size_t out_len);
 
 /* Writes the trace of an inline scan. Refusals 1, 4, 5, 6, 7. */
