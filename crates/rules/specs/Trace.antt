@@ -13,7 +13,7 @@ use Rattle.lexical.specs.declared.event.Point.{Point}
 use Rattle.rules.specs.Search.{choose}
 use Rattle.rules.specs.Lines.{Line, cutLines}
 use Rattle.rules.specs.Block.{indentation}
-use Rattle.rules.specs.Scan.{InlineAnswer, foundInline, noInline, refusedInline, BlockAnswer, foundBlock, noBlock, refusedBlock}
+use Rattle.rules.specs.Scan.{InlineAnswer, foundInline, noInline, refusedInline, Found, BlockAnswer, foundBlock, noBlock, refusedBlock}
 
 -- ---- bytes
 -- line, column, index and stop have two bytes each, low first
@@ -127,9 +127,13 @@ inlineTrace text start (foundInline stop carry) =
 inlineTrace text start (noInline carry) = lastBytes 13 start carry
 inlineTrace text start (refusedInline n carry) = []
 
-unfoldable pub blockTrace : List ℕ → ℕ → BlockAnswer → List ℕ
-blockTrace text start (foundBlock kind stop closed) =
+-- of a block, by its kind, its stop and whether a closer was met
+unfoldable pub flowTrace : List ℕ → ℕ → ℕ → ℕ → Bool → List ℕ
+flowTrace text start kind stop closed =
     eventBytes text (flowEvents start (flowExit text start kind stop closed) (taken text start stop)) ++ lastBytes 14 stop kind
+
+unfoldable pub blockTrace : List ℕ → ℕ → BlockAnswer → List ℕ
+blockTrace text start (foundBlock b) = flowTrace text start (b .kind) (b .stop) (b .closed)
 blockTrace text start noBlock = lastBytes 14 start 0
 blockTrace text start (refusedBlock n) = []
 

@@ -1,15 +1,14 @@
 -- Laws of an entry that traces: refused where the buffer is shorter than the trace, and else written.
 use mathlib.Core.Path.{_≡_, _∙_, ap}
-use mathlib.Core.Bool.{Bool}
 use mathlib.Core.List.{List, _++_}
 use Prim.Native.Nat.{ℕ, _+_, _*_, _<_, _≤_}
 use native.Mathlib.Omega.{arith}
 use lib.ListN.{length, length-append}
 use borrow.Author.Tests.{ne-eqb}
 use Rattle.rules.specs.Reading.{crate as ofCrate}
-use Rattle.rules.specs.Scan.{InlineAnswer, foundInline, noInline, refusedInline, inlineScan, BlockAnswer, foundBlock, noBlock, refusedBlock, blockScan}
+use Rattle.rules.specs.Scan.{InlineAnswer, foundInline, noInline, refusedInline, inlineScan, Found, BlockAnswer, foundBlock, noBlock, refusedBlock, blockScan}
 use Rattle.rules.specs.Refusal.{inlineRefusal, blockRefusal, outputRefusal}
-use Rattle.rules.specs.Trace.{Event, eventBytes, lastBytes, width, inlineTrace, blockTrace}
+use Rattle.rules.specs.Trace.{Event, eventBytes, lastBytes, width, inlineTrace, flowTrace, blockTrace}
 use Rattle.rules.specs.Withhold.{written}
 use Rattle.rules.proofs.Refusals.{output-first, output-short, output-fits}
 use Rattle.trace.specs.Answer.{traced, tracedOf, traceAnswer, inlineTraceRefusal, inlineTraced, inlineBuffer, blockTraceRefusal, blockTraced, blockBuffer, Traces}
@@ -84,9 +83,10 @@ module _ (text flags : List ℕ) (i : ℕ) (old : List ℕ) where
   unfolding blockTraceRefusal blockTraced blockBuffer
   block-by n a e f t = rw (e, f) (t .answer, t .buffer)
 
-  pub block-found-by : {r : Traced} {new : List ℕ} (kind stop : ℕ) (closed : Bool) → blockScan ofCrate text flags i ≡ foundBlock kind stop closed → blockRefusal text flags i ≡ 0
-      → Traces (outputRefusal 0 (length old) (blockTrace text i (foundBlock kind stop closed))) (blockTrace text i (foundBlock kind stop closed)) old r new → IsBlock r new
-  block-found-by kind stop closed e f t = block-by 0 (foundBlock kind stop closed) e f t
+  pub block-found-by : {r : Traced} {new : List ℕ} (b : Found) (kind : ℕ) → kind ≡ b .kind → blockScan ofCrate text flags i ≡ foundBlock b → blockRefusal text flags i ≡ 0
+      → Traces (outputRefusal 0 (length old) (flowTrace text i kind (b .stop) (b .closed))) (flowTrace text i kind (b .stop) (b .closed)) old r new → IsBlock r new
+  unfolding blockTrace
+  block-found-by b kind k e f t = block-by 0 (foundBlock b) e f (rw k at t)
 
   pub block-none-by : {r : Traced} {new : List ℕ} → blockScan ofCrate text flags i ≡ noBlock → blockRefusal text flags i ≡ 0
       → Traces (outputRefusal 0 (length old) (lastBytes 14 i 0)) (lastBytes 14 i 0) old r new → IsBlock r new
