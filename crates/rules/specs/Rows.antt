@@ -17,7 +17,7 @@ use Rattle.rules.specs.Block as Block
 use Rattle.rules.specs.Block.{startsRaw, startsBasic, startsComplete, kindAt, kindOf, closesEven, closes, extentOf, stopAfter}
 use Rattle.rules.specs.Refusal.{refusal, blankFollows, inlineRefusal, blockRefusal, bulletinRefusal}
 use Rattle.rules.specs.Scan.{InlineAnswer, foundInline, noInline, refusedInline, inlineAt, inlineScan, Found, found, BlockAnswer, foundBlock, noBlock, refusedBlock, blockOf, linesAt, blockAt, blockScan}
-use Rattle.rules.specs.Trace.{width, field, pointBytes, eventBytes, lastBytes, textLines, textEvents, inlineTrace}
+use Rattle.rules.specs.Trace.{field, pointBytes, eventBytes, lastBytes, textLines, textEvents, inlineTrace}
 use Rattle.rules.specs.Withhold.{marks, goesOn, inlinePieces, linePieces, pieces, isWithheld, outside, shown, count}
 
 -- two answers are the same
@@ -110,5 +110,5 @@ slips =
     []
 
 pub rows-hold : all (λ b. b) (rows ++ slips) ≡ true
-unfolding rows slips run limit lineEnding endsLine lineEndings lines isBlank isLineStart all sameBytes isMember blockNames rawNames isBlockName isRawName cdataPrefix tabReadings passed movedBy pointAt somewhere past throughFirst tagEnd values attributes openTag closingTag comment instruction declaration htmlTag prefix rawHtml readInline cutLines flagged linesOf startsRaw startsBasic startsComplete kindAt kindOf closesEven closes Block.goesOn extentOf stopAfter refusal blankFollows inlineRefusal blockRefusal bulletinRefusal inlineAt inlineScan blockOf linesAt blockAt blockScan width field pointBytes eventBytes lastBytes textLines textEvents inlineTrace marks goesOn inlinePieces linePieces pieces isWithheld outside shown count
+unfolding rows slips run limit lineEnding endsLine lineEndings lines isBlank isLineStart all sameBytes isMember blockNames rawNames isBlockName isRawName cdataPrefix tabReadings passed movedBy pointAt somewhere past throughFirst tagEnd values attributes openTag closingTag comment instruction declaration htmlTag prefix rawHtml readInline cutLines flagged linesOf startsRaw startsBasic startsComplete kindAt kindOf closesEven closes Block.goesOn extentOf stopAfter refusal blankFollows inlineRefusal blockRefusal bulletinRefusal inlineAt inlineScan blockOf linesAt blockAt blockScan field pointBytes eventBytes lastBytes textLines textEvents inlineTrace marks goesOn inlinePieces linePieces pieces isWithheld outside shown count
 rows-hold = refl

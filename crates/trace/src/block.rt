@@ -5,7 +5,7 @@ ghost use Prim.Native.Nat.{_+_, _*_, _≤_};
 ghost use lib.ListN.{length};
 ghost use Rattle.lexical.specs.Text.{limit};
 ghost use Rattle.rules.specs.Refusal.{outputRefusal};
-ghost use Rattle.rules.specs.Trace.{taken, endsEmpty, flowExit, eventBytes, lastBytes, flowTrace};
+ghost use Rattle.rules.specs.Trace.{width, taken, endsEmpty, flowExit, eventBytes, lastBytes, flowTrace};
 ghost use Rattle.trace.specs.Answer.{Traces, tracedOf, blockTraced, blockBuffer};
 ghost use Rattle.lexical.specs.Buffer.{Written};
 ghost use Rattle.trace.specs.Writing.{eventLength, lastLength};
@@ -112,7 +112,7 @@ fn write_flow(
 )
     requires { ⌜ (length (now text) ≤ limit) × (index ≤ length (now front)) × (length (now front) ≤ exit) × (exit ≤ length (now text)) ⌝ }
     requires { ⌜ eventLength * length (flowPiece (now front) index exit) + lastLength ≤ length (now out) ⌝ }
-    ensures { λ r. ⌜ Written (now (out .entry)) 0 (eventBytes (now (text .entry)) (flowPiece (now (front .entry)) index exit) ++ lastBytes 14 stop kind) (now (out .exit)) ⌝ }
+    ensures { λ r. ⌜ Written (now (out .entry)) 0 (eventBytes width (now (text .entry)) (flowPiece (now (front .entry)) index exit) ++ lastBytes width 14 stop kind) (now (out .exit)) ⌝ }
 {
     let pen = mark_flow(text, front, index, exit, out);
     write_last(out, pen.at, LAST_FLOW, stop, kind);
