@@ -40,10 +40,11 @@ pub fn show_inline(answer: Inline) {
 // `found KIND STOP yes` where a closer was met, `found KIND STOP no` where none was, `none` or `refused NUMBER`.
 pub fn show_block(answer: Block) {
     match answer {
-        Block::Found { kind, stop, closed } => {
+        Block::Found(found) => {
+            let kind = found.kind;
             put(b"found ", kind_number(kind) as u64);
-            put(b" ", stop as u64);
-            if closed {
+            put(b" ", found.stop as u64);
+            if found.closed {
                 io::write_all(1, b" yes");
             } else {
                 io::write_all(1, b" no");

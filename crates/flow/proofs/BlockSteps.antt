@@ -12,7 +12,7 @@ use Rattle.lexical.proofs.Suffix.{suffix-in, suffix-out}
 use Rattle.lexical.proofs.Ending.{ending-out}
 use Rattle.rules.specs.Lines.{Line, line, flagged, linesOf}
 use Rattle.rules.specs.Block.{endsBefore, closes, goesOn, kindOf, extentOf, stopAfter}
-use Rattle.rules.specs.Scan.{BlockAnswer, foundBlock, noBlock, blockAnswer, blockOf}
+use Rattle.rules.specs.Scan.{found, BlockAnswer, foundBlock, noBlock, blockFound, blockOf}
 use Rattle.rules.specs.declared.Rules.{Rules}
 use Rattle.rules.proofs.Cut.{behind, behind-none, content-length, lead-length, to-within, lineFrom, lineTo}
 use Rattle.rules.proofs.LineLaws.{contentFrom, stopFrom, stop-is, first-line, next-lines}
@@ -37,16 +37,16 @@ module _ (ρ : Rules) (k : ℕ) where
   abbrev pub goingOn : ℕ → List Line → BlockAnswer
   goingOn stop ls = wentOn k stop ls (goesOn ρ k ls)
 
-  pub none-left : (stop : ℕ) → goingOn stop [] ≡ foundBlock k stop false
+  pub none-left : (stop : ℕ) → goingOn stop [] ≡ foundBlock (found k stop false)
   unfolding goesOn stopFrom
   none-left stop = refl
 
   module _ (stop : ℕ) (l : Line) (ls : List Line) where
-    pub ended : endsBefore k l ≡ true → goingOn stop (l ∷ ls) ≡ foundBlock k stop false
+    pub ended : endsBefore k l ≡ true → goingOn stop (l ∷ ls) ≡ foundBlock (found k stop false)
     unfolding goesOn stopFrom
     ended h = rw h
 
-    pub closed-here : endsBefore k l ≡ false → closes ρ k (l .content) ≡ true → goingOn stop (l ∷ ls) ≡ foundBlock k (stop + length (l .lead) + length (l .content)) true
+    pub closed-here : endsBefore k l ≡ false → closes ρ k (l .content) ≡ true → goingOn stop (l ∷ ls) ≡ foundBlock (found k (stop + length (l .lead) + length (l .content)) true)
     unfolding goesOn stopFrom
     closed-here h c = rw (h, c)
 
@@ -56,7 +56,7 @@ module _ (ρ : Rules) (k : ℕ) where
 
 -- ---- the same at an index of a text
 module _ (ρ : Rules) (k : ℕ) (s flags : List ℕ) (i n : ℕ) where
-  pub no-line : lineEnding (drop i s) ≡ 0 → continuationStartOf ρ k s flags i n ≡ foundBlock k i false
+  pub no-line : lineEnding (drop i s) ≡ 0 → continuationStartOf ρ k s flags i n ≡ foundBlock (found k i false)
   unfolding continuationStartOf flagged
   no-line e = rw (behind-none s i e) (none-left ρ k i)
 
@@ -90,13 +90,13 @@ module _ (ρ : Rules) (k : ℕ) (s flags : List ℕ) (i n : ℕ) where
     pub next-stop : i + length lead + length content ≡ to
     next-stop = omega (arith, a, lead-length s i)
 
-    pub line-ends : endsBefore k (line f [] content) ≡ true → continuationStartOf ρ k s flags i n ≡ foundBlock k i false
+    pub line-ends : endsBefore k (line f [] content) ≡ true → continuationStartOf ρ k s flags i n ≡ foundBlock (found k i false)
     unfolding continuationStartOf
     line-ends e = ap (goingOn ρ k i) next-line ∙ ended ρ k i next rest e
 
-    pub line-closes : endsBefore k (line f [] content) ≡ false → closes ρ k content ≡ true → continuationStartOf ρ k s flags i n ≡ foundBlock k to true
+    pub line-closes : endsBefore k (line f [] content) ≡ false → closes ρ k content ≡ true → continuationStartOf ρ k s flags i n ≡ foundBlock (found k to true)
     unfolding continuationStartOf
-    line-closes e c = ap (goingOn ρ k i) next-line ∙ closed-here ρ k i next rest e c ∙ ap (λ t. foundBlock k t true) next-stop
+    line-closes e c = ap (goingOn ρ k i) next-line ∙ closed-here ρ k i next rest e c ∙ ap (λ t. foundBlock (found k t true)) next-stop
 
     pub line-on : endsBefore k (line f [] content) ≡ false → closes ρ k content ≡ false → (m : ℕ) → drop m flags ≡ drop 1 (drop n flags)
         → continuationStartOf ρ k s flags i n ≡ continuationStartOf ρ k s flags to m
@@ -106,10 +106,10 @@ module _ (ρ : Rules) (k : ℕ) (s flags : List ℕ) (i n : ℕ) where
         ∙ ap (λ t. goingOn ρ k t rest) next-stop ∙ ap (λ t. goingOn ρ k to (flagged t (behind (drop to s)))) (sym r)
 
   -- the text ends here, or no line ending stands here
-  pub text-over : length s ≤ i → continuationStartOf ρ k s flags i n ≡ foundBlock k i false
+  pub text-over : length s ≤ i → continuationStartOf ρ k s flags i n ≡ foundBlock (found k i false)
   text-over h = no-line (ending-out s i h)
 
-  pub same-from : (from : ℕ) → from ≡ lineFrom s i → from ≡ i → continuationStartOf ρ k s flags i n ≡ foundBlock k i false
+  pub same-from : (from : ℕ) → from ≡ lineFrom s i → from ≡ i → continuationStartOf ρ k s flags i n ≡ foundBlock (found k i false)
   same-from from a e = no-line (omega (arith, a, e))
 
 -- the next line ends within the text
@@ -154,19 +154,19 @@ module _ (ρ : Rules) (s flags : List ℕ) (i n : ℕ) (to f : ℕ) (content : L
   no-block e = ap (blockOf ρ i) all-lines ∙ rw e refl
 
   module _ (k : ℕ) (e : kindOf ρ (line f [] content) ≡ k) (z : eqb k 0 ≡ false) where
-    opened : blockAnswerAt ≡ blockAnswer i (firstLine ∷ others) k (extentOf ρ k firstLine others)
+    opened : blockAnswerAt ≡ foundBlock (blockFound k i firstLine others (extentOf ρ k firstLine others))
     unfolding blockOf
     opened = ap (blockOf ρ i) all-lines ∙ rw (e, z) refl
 
-    pub first-closes : closes ρ k content ≡ true → blockAnswerAt ≡ foundBlock k to true
+    pub first-closes : closes ρ k content ≡ true → blockAnswerAt ≡ foundBlock (found k to true)
     unfolding extentOf stopAfter
-    first-closes c = opened ∙ rw c (ap (λ t. foundBlock k t true) stopped)
+    first-closes c = opened ∙ rw c (ap (λ t. foundBlock (found k t true)) stopped)
 
     pub first-on : closes ρ k content ≡ false → (m : ℕ) → drop m flags ≡ drop 1 (drop n flags) → blockAnswerAt ≡ continuationStartOf ρ k s flags to m
     unfolding extentOf continuationStartOf
     first-on c m r =
         opened ∙ rw c
-        (ap (λ t. foundBlock k t (goesOn ρ k others .closed)) (stop-is (goesOn ρ k others .lines) i firstLine others)
+        (ap (λ t. foundBlock (found k t (goesOn ρ k others .closed))) (stop-is (goesOn ρ k others .lines) i firstLine others)
         ∙ ap (λ t. wentOn k t others (goesOn ρ k others)) stopped
         ∙ ap (λ t. wentOn k to (flagged t (behind (drop to s))) (goesOn ρ k (flagged t (behind (drop to s))))) (sym r))
 

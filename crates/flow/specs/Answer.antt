@@ -1,6 +1,6 @@
 -- What the answers of the block scan say, by 01's numbers and values for each case.
 use Prim.Native.Nat.{ℕ}
-use Rattle.rules.specs.Scan.{BlockAnswer, foundBlock, noBlock, refusedBlock}
+use Rattle.rules.specs.Scan.{found, BlockAnswer, foundBlock, noBlock, refusedBlock}
 use Rattle.flow.specs.declared.html_flow.Kind.{Kind}
 use Rattle.flow.specs.declared.html_flow.Kind.the-variants.{Raw, Comment, Instruction, Declaration, Cdata, Basic, Complete}
 use Rattle.flow.specs.declared.html_flow.Opening.{Opening}
@@ -25,6 +25,6 @@ openingNumber (Opens kind) = kindNumber kind
 
 -- found with kind, stop and whether a closer was met; none; a refusal with its number
 abbrev pub blockAnswerOf : Block → BlockAnswer
-blockAnswerOf (Found kind stop closed) = foundBlock (kindNumber kind) stop closed
+blockAnswerOf (Found b) = foundBlock (found (kindNumber (b .kind)) (b .stop) (b .closed))
 blockAnswerOf Missing = noBlock
 blockAnswerOf (Refused refusal) = refusedBlock refusal

@@ -8,13 +8,13 @@ use mathlib.Core.Bool.{Bool, _&&_}
 use Rattle.lexical.specs.Line.{isBlank}
 use Rattle.rules.specs.Lines.{Line, flagged}
 use Rattle.rules.specs.Block.{Extent, goesOn}
-use Rattle.rules.specs.Scan.{BlockAnswer, foundBlock}
+use Rattle.rules.specs.Scan.{found, BlockAnswer, foundBlock}
 use Rattle.rules.specs.declared.Rules.{Rules}
 use Rattle.rules.proofs.Cut.{behind}
 use Rattle.rules.proofs.LineLaws.{stopFrom}
 
 abbrev pub wentOn : ℕ → ℕ → List Line → Extent → BlockAnswer
-wentOn k stop ls e = foundBlock k (stopFrom stop (e .lines) ls) (e .closed)
+wentOn k stop ls e = foundBlock (found k (stopFrom stop (e .lines) ls) (e .closed))
 
 -- an open block of kind k whose content so far ends at stop; number is the next line's
 unfoldable pub continuationStartOf : Rules → ℕ → List ℕ → List ℕ → ℕ → ℕ → BlockAnswer

@@ -20,7 +20,7 @@ ghost use Rattle.rules.specs.Lines.{line as lineOf};
 ghost use Rattle.rules.specs.Block.{nameOf as tagNameIn, afterName, mayStart, kindAt, kindOf};
 ghost use Rattle.flow.specs.Answer.{openingNumber, blockAnswerOf};
 ghost use Rattle.rules.specs.Block.{endsBefore};
-ghost use Rattle.rules.specs.Scan.{foundBlock};
+ghost use Rattle.rules.specs.Scan.{found, foundBlock};
 ghost use Rattle.rules.proofs.Cut.{lineFrom};
 ghost use Rattle.flow.specs.BlockMachine.{blankLineBefore, continuationStartOf};
 ghost use Rattle.rules.proofs.LineLaws.{contentFrom};
@@ -30,6 +30,7 @@ use crate::partial_non_lazy_continuation::is_lazy;
 use crate::partial_non_lazy_continuation::next_number;
 use crate::partial_space_or_tab::inside;
 use crate::scan::Block;
+use crate::scan::Found;
 use crate::tokenizer::State;
 use crate::tokenizer::StateName;
 use crate::tokenizer::run as run_complete;
@@ -783,9 +784,9 @@ pub(crate) fn start(rules: Rules, line: &[u8], flag: u8) -> Opening
 //     <!---->
 //            ^
 pub(crate) fn continuation_after(kind: Kind, stop: usize, closed: bool) -> Block
-    ensures { λ r. ⌜ blockAnswerOf r ≡ foundBlock (kindNumber kind) stop closed ⌝ }
+    ensures { λ r. ⌜ blockAnswerOf r ≡ foundBlock (found (kindNumber kind) stop closed) ⌝ }
 {
-    Block::Found { kind, stop, closed }
+    Block::Found(Found { kind, stop, closed })
 }
 
 // Before a line of kind 6 or 7: whether it is blank.

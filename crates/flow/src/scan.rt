@@ -34,17 +34,18 @@ const WRONG_FLAG: u8 = 3;
 
 const WRONG_INDEX: u8 = 4;
 
+// A block that was found, and whether a closer was met.
+pub struct Found {
+    pub kind: Kind,
+    pub stop: usize,
+    pub closed: bool,
+}
+
 // The answer of a block scan.
 pub enum Block {
-    Found {
-        kind: Kind,
-        stop: usize,
-        closed: bool,
-    },
+    Found(Found),
     Missing,
-    Refused {
-        refusal: u8,
-    },
+    Refused { refusal: u8 },
 }
 
 // Whether all flags are 0 to 3.

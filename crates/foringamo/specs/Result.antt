@@ -2,7 +2,7 @@
 -- carry passed in.
 use Prim.Native.Nat.{ℕ}
 use mathlib.Core.Bool.{Bool, true, false}
-use Rattle.rules.specs.Scan.{InlineAnswer, foundInline, noInline, refusedInline, BlockAnswer, foundBlock, noBlock, refusedBlock}
+use Rattle.rules.specs.Scan.{InlineAnswer, foundInline, noInline, refusedInline, Found, BlockAnswer, foundBlock, noBlock, refusedBlock}
 use Rattle.rules.specs.Trace.{Record, eventRecord, lastRecord, refusedRecord}
 use Rattle.rules.specs.Withhold.{Shown, shows, refusedShown}
 use Rattle.trace.specs.Answer.{TraceAnswer, traced, refusedTrace}
@@ -18,7 +18,7 @@ flag true = 1
 flag false = 0
 
 abbrev pub blockResult : BlockAnswer → BlockResult
-blockResult (foundBlock kind stop closed) = record { refusal = 0; kind = kind; closed = flag closed; stop = stop }
+blockResult (foundBlock b) = record { refusal = 0; kind = b .kind; closed = flag (b .closed); stop = b .stop }
 blockResult noBlock = record { refusal = 0; kind = 0; closed = 0; stop = 0 }
 blockResult (refusedBlock n) = record { refusal = n; kind = 0; closed = 0; stop = 0 }
 

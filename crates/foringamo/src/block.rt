@@ -30,12 +30,15 @@ pub extern "C" fn foringamo_block_scan(bulletin: &[u8], flags: &[u8], index: usi
     ensures { λ r. ⌜ r ≡ blockResult (blockScan ofCrate (now (bulletin .entry)) (now (flags .entry)) index) ⌝ }
 {
     match block_scan(bulletin, flags, index) {
-        Block::Found { kind, stop, closed } => BlockResult {
-            refusal: 0,
-            kind: kind_number(kind),
-            closed: closed as u8,
-            stop,
-        },
+        Block::Found(found) => {
+            let kind = found.kind;
+            BlockResult {
+                refusal: 0,
+                kind: kind_number(kind),
+                closed: found.closed as u8,
+                stop: found.stop,
+            }
+        }
         Block::Missing => BlockResult {
             refusal: 0,
             kind: 0,

@@ -1,6 +1,6 @@
 // Reading a trace.
 ghost use mathlib.Core.Path.{_≡_};
-ghost use Rattle.rules.specs.Trace.{readTrace};
+ghost use Rattle.rules.specs.Trace.{width, readTrace};
 ghost use Rattle.foringamo.specs.Result.{recordResult};
 use trace::reader::Record;
 use trace::reader::read_trace;
@@ -24,7 +24,7 @@ pub struct RecordResult {
 // The record of a number, counted from 0.
 #[no_mangle]
 pub extern "C" fn foringamo_read_trace(trace: &[u8], number: usize) -> RecordResult
-    ensures { λ r. ⌜ r ≡ recordResult (readTrace number (now (trace .entry))) ⌝ }
+    ensures { λ r. ⌜ r ≡ recordResult (readTrace width number (now (trace .entry))) ⌝ }
 {
     match read_trace(trace, number) {
         Record::Event {

@@ -17,7 +17,7 @@ use Rattle.rules.specs.Inline.{carrying, keeping, htmlTag, rawHtml, read
 use Rattle.rules.specs.Lines.{Line, isInterrupt}
 use Rattle.rules.specs.Block.{nameOf, startsRaw, startsBasic, fillsLine, startsComplete, mayStart, kindAt, indentation, kindOf, closes, goesOn, extentOf}
 use Rattle.rules.specs.Refusal.{inlineRefusal, blockRefusal}
-use Rattle.rules.specs.Scan.{inlineAt, inlineScan, BlockAnswer, foundBlock, noBlock, blockAnswer, blockOf, linesAt, blockAt, blockScan}
+use Rattle.rules.specs.Scan.{inlineAt, inlineScan, Found, BlockAnswer, foundBlock, noBlock, blockFound, blockOf, linesAt, blockAt, blockScan}
 use Rattle.rules.specs.Changes.{Unchanged, NoneApplies}
 use Rattle.rules.specs.declared.Rules.{Rules}
 use Rattle.rules.proofs.Complete.{open-grows, open-falls}
@@ -173,24 +173,27 @@ module _ (f : ℕ) (s : List ℕ) where
 
 -- ---- blocks
 -- an answer says which bit it was made from
-same-bit : (p q : Bool) (k t : ℕ) (c : Bool) → choose p (λ _. foundBlock k t c) (λ _. noBlock) ≡ choose q (λ _. foundBlock k t c) (λ _. noBlock) → p ≡ q
-same-bit true true k t c e = refl
-same-bit true false k t c e = cc
-same-bit false true k t c e = cc
-same-bit false false k t c e = refl
+same-bit : (p q : Bool) (b : Found) → choose p (λ _. foundBlock b) (λ _. noBlock) ≡ choose q (λ _. foundBlock b) (λ _. noBlock) → p ≡ q
+same-bit true true b e = refl
+same-bit true false b e = cc
+same-bit false true b e = cc
+same-bit false false b e = refl
 
 module _ (i : ℕ) (l : Line) (ls : List Line) where
   -- the answer from the kind
+  abbrev foundOf : Rules → ℕ → Found
+  foundOf ρ n = blockFound n i l ls (extentOf ρ n l ls)
+
   abbrev byKind : Rules → ℕ → BlockAnswer
-  byKind ρ n = choose (eqb n 0) (λ _. noBlock) (λ _. blockAnswer i (l ∷ ls) n (extentOf ρ n l ls))
+  byKind ρ n = choose (eqb n 0) (λ _. noBlock) (λ _. foundBlock (foundOf ρ n))
 
   by-kind : (ρ : Rules) (n : ℕ) → kindOf ρ l ≡ n → blockOf ρ i (l ∷ ls) ≡ byKind ρ n
   unfolding blockOf
   by-kind ρ n e = rw e
 
   by-bit : (ρ : Rules) (b : Bool) → kindOf ρ l ≡ choose b (λ _. 7) (λ _. 0)
-      → blockOf ρ i (l ∷ ls) ≡ choose b (λ _. blockAnswer i (l ∷ ls) 7 (extentOf standard 7 l ls)) (λ _. noBlock)
-  by-bit ρ true e = by-kind ρ 7 e ∙ ap (blockAnswer i (l ∷ ls) 7) (seven-extent ρ standard l ls)
+      → blockOf ρ i (l ∷ ls) ≡ choose b (λ _. foundBlock (foundOf standard 7)) (λ _. noBlock)
+  by-bit ρ true e = by-kind ρ 7 e ∙ ap (λ x. foundBlock (blockFound 7 i l ls x)) (seven-extent ρ standard l ls)
   by-bit ρ false e = by-kind ρ 0 e
 
   -- kinds 1 to 6 without F1 are the standard's
@@ -200,9 +203,9 @@ module _ (i : ℕ) (l : Line) (ls : List Line) where
   by-kinds : Kinds (λ ρ. kindOf ρ l) → Unchanged (λ ρ. blockOf ρ i (l ∷ ls))
   by-kinds (fixed n e) h = h F1 ∙ block-without-F1 n e
   by-kinds (bit f s e) h =
-      let same = bits-unchanged f s (λ c. same-bit (seventh crate f s) (seventh (without c) f s) 7 _ _ (sym (by-bit crate (seventh crate f s) (e crate)) ∙ h c ∙ by-bit (without c) (seventh (without c) f s) (e (without c)))) in
+      let same = bits-unchanged f s (λ c. same-bit (seventh crate f s) (seventh (without c) f s) (foundOf standard 7) (sym (by-bit crate (seventh crate f s) (e crate)) ∙ h c ∙ by-bit (without c) (seventh (without c) f s) (e (without c)))) in
       by-bit crate (seventh crate f s) (e crate)
-      ∙ ap (λ b. choose b (λ _. blockAnswer i (l ∷ ls) 7 (extentOf standard 7 l ls)) (λ _. noBlock)) same
+      ∙ ap (λ b. choose b (λ _. foundBlock (foundOf standard 7)) (λ _. noBlock)) same
       ∙ sym (by-bit standard (seventh standard f s) (e standard))
 
 block-unchanged : (i : ℕ) (ls : List Line) → Unchanged (λ ρ. blockOf ρ i ls)

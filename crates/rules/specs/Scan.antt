@@ -33,20 +33,30 @@ refuseInline n k a = choose (eqb n 0) (λ _. a) (λ _. refusedInline n k)
 unfoldable pub inlineScan : Rules → List ℕ → ℕ → ℕ → InlineAnswer
 inlineScan ρ text i k = refuseInline (inlineRefusal text i k) k (inlineAt ρ text i k)
 
--- found with kind, stop and whether a closer was met, or none
+-- a found block: its kind, its stop, and whether a closer was met
+pub record Found : Type 0 where
+  pub kind : ℕ
+  pub stop : ℕ
+  pub closed : Bool
+
+abbrev pub found : ℕ → ℕ → Bool → Found
+found k s c = record { kind = k; stop = s; closed = c }
+
+-- found, or none
 pub data BlockAnswer : Type 0 where
-  foundBlock : ℕ → ℕ → Bool → BlockAnswer
+  foundBlock : Found → BlockAnswer
   noBlock : BlockAnswer
   refusedBlock : ℕ → BlockAnswer
 
-abbrev pub blockAnswer : ℕ → List Line → ℕ → Extent → BlockAnswer
-blockAnswer i ls k e = foundBlock k (stopAfter i (e .lines) ls) (e .closed)
+-- the block of kind k and extent e whose first line begins at i
+abbrev pub blockFound : ℕ → ℕ → Line → List Line → Extent → Found
+blockFound k i l ls e = found k (stopAfter i (e .lines) (l ∷ ls)) (e .closed)
 
 -- the block that the first line opens, which begins at i
 unfoldable pub blockOf : Rules → ℕ → List Line → BlockAnswer
 blockOf ρ i [] = noBlock
 blockOf ρ i (l ∷ ls) =
-    choose (eqb (kindOf ρ l) 0) (λ _. noBlock) (λ _. blockAnswer i (l ∷ ls) (kindOf ρ l) (extentOf ρ (kindOf ρ l) l ls))
+    choose (eqb (kindOf ρ l) 0) (λ _. noBlock) (λ _. foundBlock (blockFound (kindOf ρ l) i l ls (extentOf ρ (kindOf ρ l) l ls)))
 
 -- the lines from an index on, with their flags
 unfoldable pub linesAt : List ℕ → List ℕ → ℕ → List Line

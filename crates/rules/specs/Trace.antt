@@ -13,13 +13,14 @@ use Rattle.lexical.specs.declared.event.Point.{Point}
 use Rattle.rules.specs.Search.{choose}
 use Rattle.rules.specs.Lines.{Line, cutLines}
 use Rattle.rules.specs.Block.{indentation}
-use Rattle.rules.specs.Scan.{InlineAnswer, foundInline, noInline, refusedInline, BlockAnswer, foundBlock, noBlock, refusedBlock}
+use Rattle.rules.specs.Scan.{InlineAnswer, foundInline, noInline, refusedInline, Found, BlockAnswer, foundBlock, noBlock, refusedBlock}
 
 -- ---- bytes
 -- line, column, index and stop have two bytes each, low first
-unfoldable pub width : ℕ
+abbrev pub width : ℕ
 width = 2
 
+-- a number in w bytes, low first
 unfoldable pub field : ℕ → ℕ → List ℕ
 field zero n = []
 field (suc w) n = n % 256 ∷ field w (n / 256)
@@ -32,16 +33,16 @@ pub record Event : Type 0 where
 abbrev pub event : ℕ → ℕ → Event
 event k i = record { kind = k; index = i }
 
-unfoldable pub pointBytes : Point → List ℕ
-pointBytes p = field width (p .line) ++ (field width (p .column) ++ (field width (p .index) ++ (p .vs ∷ [])))
+unfoldable pub pointBytes : ℕ → Point → List ℕ
+pointBytes w p = field w (p .line) ++ (field w (p .column) ++ (field w (p .index) ++ (p .vs ∷ [])))
 
-unfoldable pub eventBytes : List ℕ → List Event → List ℕ
-eventBytes text [] = []
-eventBytes text (e ∷ es) = e .kind ∷ (pointBytes (pointAt text (e .index)) ++ eventBytes text es)
+unfoldable pub eventBytes : ℕ → List ℕ → List Event → List ℕ
+eventBytes w text [] = []
+eventBytes w text (e ∷ es) = e .kind ∷ (pointBytes w (pointAt text (e .index)) ++ eventBytes w text es)
 
 -- the last record: 13 with the carry, 14 with the block kind
-unfoldable pub lastBytes : ℕ → ℕ → ℕ → List ℕ
-lastBytes kind stop n = kind ∷ (field width stop ++ (n ∷ []))
+unfoldable pub lastBytes : ℕ → ℕ → ℕ → ℕ → List ℕ
+lastBytes w kind stop n = kind ∷ (field w stop ++ (n ∷ []))
 
 -- ---- events
 -- the kinds of the enters
@@ -123,14 +124,18 @@ flowExit text start kind stop closed =
 -- a scan that finds nothing writes only its last record, with the index passed in as stop
 unfoldable pub inlineTrace : List ℕ → ℕ → InlineAnswer → List ℕ
 inlineTrace text start (foundInline stop carry) =
-    eventBytes text (textEvents start stop (taken text start stop)) ++ lastBytes 13 stop carry
-inlineTrace text start (noInline carry) = lastBytes 13 start carry
+    eventBytes width text (textEvents start stop (taken text start stop)) ++ lastBytes width 13 stop carry
+inlineTrace text start (noInline carry) = lastBytes width 13 start carry
 inlineTrace text start (refusedInline n carry) = []
 
+-- of a block, by its kind, its stop and whether a closer was met
+unfoldable pub flowTrace : List ℕ → ℕ → ℕ → ℕ → Bool → List ℕ
+flowTrace text start kind stop closed =
+    eventBytes width text (flowEvents start (flowExit text start kind stop closed) (taken text start stop)) ++ lastBytes width 14 stop kind
+
 unfoldable pub blockTrace : List ℕ → ℕ → BlockAnswer → List ℕ
-blockTrace text start (foundBlock kind stop closed) =
-    eventBytes text (flowEvents start (flowExit text start kind stop closed) (taken text start stop)) ++ lastBytes 14 stop kind
-blockTrace text start noBlock = lastBytes 14 start 0
+blockTrace text start (foundBlock b) = flowTrace text start (b .kind) (b .stop) (b .closed)
+blockTrace text start noBlock = lastBytes width 14 start 0
 blockTrace text start (refusedBlock n) = []
 
 -- ---- reading
@@ -145,19 +150,19 @@ unfoldable pub number : ℕ → List ℕ → ℕ
 number zero s = 0
 number (suc w) s = getD s 0 0 + 256 * number w (drop 1 s)
 
--- the length of a record of a kind
-unfoldable pub recordLength : ℕ → ℕ
-recordLength kind = choose (leb kind 12) (λ _. 1 + (3 * width + 1)) (λ _. 1 + (width + 1))
+-- the length of a record of a kind, with fields of w bytes
+unfoldable pub recordLength : ℕ → ℕ → ℕ
+recordLength w kind = choose (leb kind 12) (λ _. 2 + 3 * w) (λ _. 2 + w)
 
--- the record in front of s
-unfoldable pub recordAt : List ℕ → Record
-recordAt s =
+-- the record in front of s, with fields of w bytes
+unfoldable pub recordAt : ℕ → List ℕ → Record
+recordAt w s =
     choose (eqb (length s) 0) (λ _. refusedRecord 9)
     (λ _. choose (eqb (first s) 0 || ltb 14 (first s)) (λ _. refusedRecord 8)
-    (λ _. choose (ltb (length s) (recordLength (first s))) (λ _. refusedRecord 9)
+    (λ _. choose (ltb (length s) (recordLength w (first s))) (λ _. refusedRecord 9)
     (λ _. choose (leb (first s) 12)
-    (λ _. eventRecord (first s) (number width (drop 1 s)) (number width (drop (1 + width) s)) (number width (drop (1 + 2 * width) s)) (getD s (1 + 3 * width) 0))
-    (λ _. lastRecord (first s) (number width (drop 1 s)) (getD s (1 + width) 0)))))
+    (λ _. eventRecord (first s) (number w (drop 1 s)) (number w (drop (1 + w) s)) (number w (drop (1 + 2 * w) s)) (getD s (1 + 3 * w) 0))
+    (λ _. lastRecord (first s) (number w (drop 1 s)) (getD s (1 + w) 0)))))
 
 abbrev pub unlessRefused : Record → Record → Record
 unlessRefused (eventRecord k l c i v) r = r
@@ -165,6 +170,6 @@ unlessRefused (lastRecord k s n) r = r
 unlessRefused (refusedRecord n) r = refusedRecord n
 
 -- record n, counted from 0: the first bad record on the way decides; later ones are not looked at
-unfoldable pub readTrace : ℕ → List ℕ → Record
-readTrace zero s = recordAt s
-readTrace (suc n) s = unlessRefused (recordAt s) (readTrace n (drop (recordLength (first s)) s))
+unfoldable pub readTrace : ℕ → ℕ → List ℕ → Record
+readTrace w zero s = recordAt w s
+readTrace w (suc n) s = unlessRefused (recordAt w s) (readTrace w n (drop (recordLength w (first s)) s))

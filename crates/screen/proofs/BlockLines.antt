@@ -15,7 +15,7 @@ use Rattle.lexical.proofs.Ending.{ending-out}
 use Rattle.rules.specs.Search.{choose}
 use Rattle.rules.specs.Lines.{Line, linesOf}
 use Rattle.rules.specs.Block.{Extent, kindOf, extentOf, stopAfter}
-use Rattle.rules.specs.Scan.{BlockAnswer, foundBlock, noBlock, refusedBlock, blockAnswer, blockOf}
+use Rattle.rules.specs.Scan.{Found, BlockAnswer, foundBlock, noBlock, refusedBlock, blockFound, blockOf}
 use Rattle.rules.specs.Withhold.{Piece, piece, inline, block, marks, linePieces}
 use Rattle.rules.specs.declared.Rules.{Rules}
 use Rattle.rules.proofs.Cut.{content-length, lineFrom, lineTo, to-within}
@@ -26,22 +26,22 @@ use Rattle.screen.proofs.FromLine.{ending-there, read-to, line-ended, l
 
 -- ---- what an answer says
 abbrev pieceOf : ℕ → BlockAnswer → Piece
-pieceOf i (foundBlock k stop c) = piece i stop (block k c)
+pieceOf i (foundBlock b) = piece i (b .stop) (block (b .kind) (b .closed))
 pieceOf i noBlock = piece i i inline
 pieceOf i (refusedBlock q) = piece i i inline
 
 abbrev stopOf : BlockAnswer → ℕ
-stopOf (foundBlock k stop c) = stop
+stopOf (foundBlock b) = b .stop
 stopOf noBlock = 0
 stopOf (refusedBlock q) = 0
 
 abbrev pub isFound : BlockAnswer → Bool
-isFound (foundBlock k stop c) = true
+isFound (foundBlock b) = true
 isFound noBlock = false
 isFound (refusedBlock q) = false
 
 abbrev pub isRefused : BlockAnswer → Bool
-isRefused (foundBlock k stop c) = false
+isRefused (foundBlock b) = false
 isRefused noBlock = false
 isRefused (refusedBlock q) = true
 
@@ -126,22 +126,22 @@ module _ (ρ : Rules) (text flags : List ℕ) where
         ∙ ap (λ ps. piece i (stopAfter i (x .lines) (l ∷ L E m)) (block k (x .closed)) ∷ ps) (more-lines further E m (line-ended text i))
         ∙ ap (λ t. piece i (stopAfter i (x .lines) (l ∷ L E m)) (block k (x .closed)) ∷ behindBlock ρ t E (L E m)) (sym ends))
 
-    found : (q stop : ℕ) (c : Bool) → blockOf ρ i (l ∷ L E m) ≡ foundBlock q stop c
-        → linePieces ρ i (marks ρ 0 false (l ∷ L E m)) (l ∷ L E m) ≡ piece i stop (block q c) ∷ behindBlock ρ stop E (L E m)
+    found : (b : Found) → blockOf ρ i (l ∷ L E m) ≡ foundBlock b
+        → linePieces ρ i (marks ρ 0 false (l ∷ L E m)) (l ∷ L E m) ≡ piece i (b .stop) (block (b .kind) (b .closed)) ∷ behindBlock ρ (b .stop) E (L E m)
     unfolding blockOf
-    found q stop c o =
-        split (eqb k 0) (λ h. let z : noBlock ≡ foundBlock q stop c = simp h at o in clash true refl (sym (ap isFound z)))
+    found b o =
+        split (eqb k 0) (λ h. let z : noBlock ≡ foundBlock b = simp h at o in clash true refl (sym (ap isFound z)))
         (λ h.
-        let f : blockAnswer i (l ∷ L E m) k x ≡ foundBlock q stop c = simp h at o in
+        let f : foundBlock (blockFound k i l (L E m) x) ≡ foundBlock b = simp h at o in
         opened h ∙ ap (λ a. pieceOf i a ∷ behindBlock ρ (stopOf a) E (L E m)) f)
 
     -- a block that was found is the next piece
-    pub block-lines : (q stop : ℕ) (c : Bool) → blockOf ρ i (linesOf (drop n flags) (drop i text)) ≡ foundBlock q stop c
-        → fromLine ρ text flags i n ≡ piece i stop (block q c) ∷ behindBlock ρ stop E (L E m)
+    pub block-lines : (b : Found) (stop : ℕ) → b .stop ≡ stop → blockOf ρ i (linesOf (drop n flags) (drop i text)) ≡ foundBlock b
+        → fromLine ρ text flags i n ≡ piece i stop (block (b .kind) (b .closed)) ∷ behindBlock ρ stop E (L E m)
     unfolding fromLine
-    block-lines q stop c o =
+    block-lines b stop s o =
         let f = first-numbered text flags i n m r in
-        ap (piecesBehind ρ i) f ∙ found q stop c (ap (blockOf ρ i) (sym f) ∙ o)
+        ap (piecesBehind ρ i) f ∙ found b (ap (blockOf ρ i) (sym f) ∙ o) ∙ ap (λ t. piece i t (block (b .kind) (b .closed)) ∷ behindBlock ρ t E (L E m)) s
 
     -- what was found says whether the line opens one; no answer is a refusal
     kind-found : isFound (blockOf ρ i (l ∷ L E m)) ≡ not (eqb k 0)
@@ -203,5 +203,5 @@ module _ (text flags : List ℕ) (stop : ℕ) where
   block-end i k n e m r passing h =
       record {
         to = passing .to;
-        pieces = λ ρ q c o. block-lines ρ text flags i k n r q stop c o ∙ ap (λ ps. piece i stop (block q c) ∷ ps) (passing .same ρ ∙ rest (i + lineLength (drop i text)) n e m passing ρ h);
+        pieces = λ ρ b s o. block-lines ρ text flags i k n r b stop s o ∙ ap (λ ps. piece i stop (block (b .kind) (b .closed)) ∷ ps) (passing .same ρ ∙ rest (i + lineLength (drop i text)) n e m passing ρ h);
       }

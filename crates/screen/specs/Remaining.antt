@@ -11,7 +11,7 @@ use Rattle.lexical.specs.Line.{isInner, lineLength, isBlank}
 use Rattle.rules.specs.Inline.{takes, lacks, readInline}
 use Rattle.rules.specs.Lines.{Line, line, linesOf}
 use Rattle.rules.specs.Block.{kindOf}
-use Rattle.rules.specs.Scan.{foundBlock, blockOf}
+use Rattle.rules.specs.Scan.{Found as FoundBlock, foundBlock, blockOf}
 use Rattle.rules.specs.Withhold.{Piece, Which, piece, inline, block, marks, inlinePieces, linePieces, shows, written}
 use Rattle.rules.specs.declared.Rules.{Rules}
 use Rattle.rules.proofs.Cut.{lineFrom}
@@ -50,8 +50,8 @@ fromLine ρ text flags i n = linePieces ρ i (marks ρ 0 false (linesOf (drop n 
 -- a block that the line at an index opens, and the end of its last line
 pub record BlockEnd (text flags : List ℕ) (i n stop : ℕ) (e : End) : Type 0 where
   pub to : e .stop ≤ length text
-  pub pieces : (ρ : Rules) (k : ℕ) (c : Bool) → blockOf ρ i (linesOf (drop n flags) (drop i text)) ≡ foundBlock k stop c
-      → fromLine ρ text flags i n ≡ piece i stop (block k c) ∷ fromLine ρ text flags (lineFrom text (e .stop)) (e .line)
+  pub pieces : (ρ : Rules) (b : FoundBlock) → b .stop ≡ stop → blockOf ρ i (linesOf (drop n flags) (drop i text)) ≡ foundBlock b
+      → fromLine ρ text flags i n ≡ piece i stop (block (b .kind) (b .closed)) ∷ fromLine ρ text flags (lineFrom text (e .stop)) (e .line)
 
 -- ---- paragraphs
 -- the pieces of a paragraph from an index on
@@ -126,9 +126,9 @@ Goes ρ text flags ps NoPiece = ps ≡ []
 
 -- the line in front of which the place is opens a block that ends at stop
 pub record Opens (ρ : Rules) (text flags : List ℕ) (c : Cursor) (stop : ℕ) : Type 0 where
-  pub kind : ℕ
-  pub closed : Bool
-  pub is : blockOf ρ (c .next) (linesOf (drop (c .line) flags) (drop (c .next) text)) ≡ foundBlock kind stop closed
+  pub found : FoundBlock
+  pub stops : found .stop ≡ stop
+  pub is : blockOf ρ (c .next) (linesOf (drop (c .line) flags) (drop (c .next) text)) ≡ foundBlock found
 
 -- ---- what is written
 pub record Shows (output : List ℕ) (pieces : ℕ) (old : List ℕ) (r : Withheld) (new : List ℕ) : Type 0 where

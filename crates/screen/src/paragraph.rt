@@ -51,11 +51,7 @@ fn ends_paragraph(rules: Rules, bulletin: &[u8], flags: &[u8], index: usize, lin
         return true;
     }
     match block_at(rules, bulletin, flags, index, line) {
-        Block::Found {
-            kind: _,
-            stop: _,
-            closed: _,
-        } => true,
+        Block::Found(_) => true,
         Block::Missing => false,
         Block::Refused { refusal: _ } => false,
     }

@@ -143,11 +143,7 @@ fn line_turn(rules: Rules, bulletin: &[u8], flags: &[u8], cursor: Cursor) -> Tur
     ensures { λ r. ⌜ TurnTo rules (now (bulletin .entry)) (now (flags .entry)) cursor r ⌝ }
 {
     match block_at(rules, bulletin, flags, cursor.next, cursor.line) {
-        Block::Found {
-            kind: _,
-            stop,
-            closed: _,
-        } => block_line(rules, bulletin, flags, cursor, stop),
+        Block::Found(found) => block_line(rules, bulletin, flags, cursor, found.stop),
         Block::Missing => text_line(rules, bulletin, flags, cursor),
         Block::Refused { refusal: _ } => Turn::Line { cursor },
     }

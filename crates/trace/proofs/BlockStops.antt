@@ -1,7 +1,7 @@
 -- What an answer of the block scan says of the text: where a scan is not refused, the text is within the limit and the index within the text; a stop lies
 -- between the index and the end, because the lines from the index on have together the bytes from there on.
 use mathlib.Core.Path.{_≡_, refl, _∙_}
-use mathlib.Core.Bool.{Bool, true, not}
+use mathlib.Core.Bool.{true, not}
 use mathlib.Core.List.{List, [], _∷_}
 use Prim.Native.Nat.{ℕ, zero, suc, _+_, _-_, _<_, _≤_}
 use native.Mathlib.Omega.{arith}
@@ -16,7 +16,7 @@ use Rattle.rules.specs.Reading.{crate as ofCrate}
 use Rattle.rules.specs.Refusal.{tooLong, wrongCount, wrongFlag, blockRefusal}
 use Rattle.rules.specs.Lines.{Line}
 use Rattle.rules.specs.Block.{kindOf, extentOf, stopAfter}
-use Rattle.rules.specs.Scan.{foundBlock, noBlock, refusedBlock, blockOf, linesAt, blockAt, blockScan}
+use Rattle.rules.specs.Scan.{Found, foundBlock, noBlock, refusedBlock, blockOf, linesAt, blockAt, blockScan}
 use Rattle.rules.proofs.Refusals.{not-met, given-passes, given-is, refused-by, refused-some}
 use Rattle.trace.proofs.Stops.{Between}
 use Rattle.rules.proofs.LineLaws.{sizes, lines-size}
@@ -42,15 +42,15 @@ stop-to i (suc zero) l ls = omega arith
 stop-to i (suc (suc n)) l [] = omega arith
 stop-to i (suc (suc n)) l (m ∷ ls) = let h = stop-to (i + length (l .content) + length (m .lead)) (suc n) m ls in omega arith
 
-found-between : (i n : ℕ) (ls : List Line) (kind stop : ℕ) (closed : Bool) → sizes ls ≡ n - i → i ≤ n → blockOf ofCrate i ls ≡ foundBlock kind stop closed → Between i stop n
+found-between : (i n : ℕ) (ls : List Line) (b : Found) → sizes ls ≡ n - i → i ≤ n → blockOf ofCrate i ls ≡ foundBlock b → Between i (b .stop) n
 unfolding blockOf
-found-between i n [] kind stop closed e h f = let z : _≡_ {A = ℕ} 0 1 = cc in absurd (omega arith)
-found-between i n (l ∷ ls) kind stop closed e h f =
+found-between i n [] b e h f = let z : _≡_ {A = ℕ} 0 1 = cc in absurd (omega arith)
+found-between i n (l ∷ ls) b e h f =
     split (eqb (kindOf ofCrate l) 0)
     (λ t. let g = rw t at f in let z : _≡_ {A = ℕ} 0 1 = cc in absurd (omega arith))
     (λ t.
     let g = rw t at f in
-    let s : stopAfter i (extentOf ofCrate (kindOf ofCrate l) l ls .lines) (l ∷ ls) ≡ stop = cc in
+    let s : stopAfter i (extentOf ofCrate (kindOf ofCrate l) l ls .lines) (l ∷ ls) ≡ b .stop = cc in
     record { from = omega (arith, s, stop-from i (extentOf ofCrate (kindOf ofCrate l) l ls .lines) (l ∷ ls)); to = omega (arith, s, stop-to i (extentOf ofCrate (kindOf ofCrate l) l ls .lines) l ls) })
 
 -- ---- what was checked
@@ -75,9 +75,9 @@ module _ (text flags : List ℕ) (i : ℕ) where
         within = start-within text i (not-false _ (not-met front [] (not (isLineStart text i)) 4 refl refl e));
       }
 
-  pub block-between : i ≤ length text → (kind stop : ℕ) (closed : Bool) → blockAt ofCrate text flags i ≡ foundBlock kind stop closed → Between i stop (length text)
+  pub block-between : i ≤ length text → (b : Found) → blockAt ofCrate text flags i ≡ foundBlock b → Between i (b .stop) (length text)
   unfolding blockAt
-  block-between h kind stop closed f = found-between i (length text) (linesAt text flags i) kind stop closed (size-from text flags i) h f
+  block-between h b f = found-between i (length text) (linesAt text flags i) b (size-from text flags i) h f
 
   -- ---- by the answer
   no-refusal : (ls : List Line) (m : ℕ) → blockOf ofCrate i ls ≡ refusedBlock m → ⊥
@@ -98,21 +98,21 @@ module _ (text flags : List ℕ) (i : ℕ) where
   block-refused-some n e z =
       refused-some refusedBlock (blockAt ofCrate text flags i) (refusedBlock n) (no-refusal (linesAt text flags i) n) (blockRefusal text flags i) e (block-refused-number n e ∙ z)
 
-  found-no-refusal : (kind stop : ℕ) (closed : Bool) (m : ℕ) → refusedBlock m ≡ foundBlock kind stop closed → ⊥
-  found-no-refusal kind stop closed m e = let z : _≡_ {A = ℕ} 0 1 = cc in omega arith
+  found-no-refusal : (b : Found) (m : ℕ) → refusedBlock m ≡ foundBlock b → ⊥
+  found-no-refusal b m e = let z : _≡_ {A = ℕ} 0 1 = cc in omega arith
 
   none-no-refusal : (m : ℕ) → refusedBlock m ≡ noBlock → ⊥
   none-no-refusal m e = let z : _≡_ {A = ℕ} 0 1 = cc in omega arith
 
-  pub block-found-passes : (kind stop : ℕ) (closed : Bool) → blockScan ofCrate text flags i ≡ foundBlock kind stop closed → blockRefusal text flags i ≡ 0
+  pub block-found-passes : (b : Found) → blockScan ofCrate text flags i ≡ foundBlock b → blockRefusal text flags i ≡ 0
   unfolding blockScan
-  block-found-passes kind stop closed e =
-      given-passes refusedBlock (blockAt ofCrate text flags i) (foundBlock kind stop closed) (found-no-refusal kind stop closed) (blockRefusal text flags i) e
+  block-found-passes b e =
+      given-passes refusedBlock (blockAt ofCrate text flags i) (foundBlock b) (found-no-refusal b) (blockRefusal text flags i) e
 
-  pub block-found-at : (kind stop : ℕ) (closed : Bool) → blockScan ofCrate text flags i ≡ foundBlock kind stop closed → blockAt ofCrate text flags i ≡ foundBlock kind stop closed
+  pub block-found-at : (b : Found) → blockScan ofCrate text flags i ≡ foundBlock b → blockAt ofCrate text flags i ≡ foundBlock b
   unfolding blockScan
-  block-found-at kind stop closed e =
-      given-is refusedBlock (blockAt ofCrate text flags i) (foundBlock kind stop closed) (found-no-refusal kind stop closed) (blockRefusal text flags i) e
+  block-found-at b e =
+      given-is refusedBlock (blockAt ofCrate text flags i) (foundBlock b) (found-no-refusal b) (blockRefusal text flags i) e
 
   pub block-none-passes : blockScan ofCrate text flags i ≡ noBlock → blockRefusal text flags i ≡ 0
   unfolding blockScan

@@ -16,30 +16,28 @@ use Rattle.trace.specs.Writing.{eventLength}
 use Rattle.trace.specs.Walk.{Ready, Marked}
 use Rattle.trace.specs.declared.events.Pen.{Pen}
 use Rattle.lexical.proofs.Stores.{then, nothing-written}
-use Rattle.trace.proofs.Stores.{field-length}
+use Rattle.trace.proofs.Stores.{point-length}
 
 -- ---- bytes of events
-point-length : (p : Point) → length (pointBytes p) ≡ 7
-unfolding pointBytes width
-point-length p = simp (length-append, field-length)
-
-pub events-length : (text : List ℕ) (es : List Event) → length (eventBytes text es) ≡ eventLength * length es
+pub events-length : (text : List ℕ) (es : List Event) → length (eventBytes width text es) ≡ eventLength * length es
 unfolding eventBytes
 events-length text [] = refl
 events-length text (e ∷ es) =
-    let p = point-length (pointAt text (e .index)) in
+    let p = point-length width (pointAt text (e .index)) in
     let l = events-length text es in
-    omega (arith, length-append (pointBytes (pointAt text (e .index))) (eventBytes text es))
+    omega (arith, length-append (pointBytes width (pointAt text (e .index))) (eventBytes width text es))
 
-pub events-append : (text : List ℕ) (a b : List Event) → eventBytes text (a ++ b) ≡ eventBytes text a ++ eventBytes text b
-unfolding eventBytes
-events-append text [] b = refl
-events-append text (e ∷ a) b =
-    ap (λ l. e .kind ∷ l) (ap (λ l. pointBytes (pointAt text (e .index)) ++ l) (events-append text a b) ∙ sym (append-assoc (pointBytes (pointAt text (e .index))) (eventBytes text a) (eventBytes text b)))
+-- with fields of w bytes
+module _ (w : ℕ) (text : List ℕ) where
+  pub events-append : (a b : List Event) → eventBytes w text (a ++ b) ≡ eventBytes w text a ++ eventBytes w text b
+  unfolding eventBytes
+  events-append [] b = refl
+  events-append (e ∷ a) b =
+      ap (λ l. e .kind ∷ l) (ap (λ l. pointBytes w (pointAt text (e .index)) ++ l) (events-append a b) ∙ sym (append-assoc (pointBytes w (pointAt text (e .index))) (eventBytes w text a) (eventBytes w text b)))
 
-one-event : (text : List ℕ) (kind index : ℕ) → eventBytes text (event kind index ∷ []) ≡ kind ∷ pointBytes (pointAt text index)
-unfolding eventBytes
-one-event text kind index = ap (λ l. kind ∷ l) (append-nil (pointBytes (pointAt text index)))
+  one-event : (kind index : ℕ) → eventBytes w text (event kind index ∷ []) ≡ kind ∷ pointBytes w (pointAt text index)
+  unfolding eventBytes
+  one-event kind index = ap (λ l. kind ∷ l) (append-nil (pointBytes w (pointAt text index)))
 
 -- ---- points
 standing : (text : List ℕ) (index : ℕ) → length text ≤ limit → index ≤ length text → Fit index (pointAt text index)
@@ -61,9 +59,9 @@ module _ {text : List ℕ} {pen : Pen} {index : ℕ} (ready : Ready text pen ind
 
 -- an event is marked
 pub marked-one : {text old new : List ℕ} {pen : Pen} {kind index : ℕ} (p : Point) → Ready text pen index → p ≡ pointAt text index
-    → Written old (pen .at) (kind ∷ pointBytes p) new → Marked text pen (event kind index ∷ []) old new (record { point = p; at = pen .at + eventLength })
+    → Written old (pen .at) (kind ∷ pointBytes width p) new → Marked text pen (event kind index ∷ []) old new (record { point = p; at = pen .at + eventLength })
 marked-one {text} {old} {new} {pen} {kind} {index} p ready e w = record {
-  bytes = subst (λ b. Written old (pen .at) b new) (ap (λ q. kind ∷ pointBytes q) e ∙ sym (one-event text kind index)) w;
+  bytes = subst (λ b. Written old (pen .at) b new) (ap (λ q. kind ∷ pointBytes width q) e ∙ sym (one-event width text kind index)) w;
   at-is = refl;
   stands = e ∙ ap (pointAt text) (sym (index-is ready p e));
 }
@@ -71,7 +69,7 @@ marked-one {text} {old} {new} {pen} {kind} {index} p ready e w = record {
 -- ---- one marking behind the other
 pub and-then : {text old mid new : List ℕ} {pen pen′ r : Pen} {a b : List Event} → Marked text pen a old mid pen′ → Marked text pen′ b mid new r → Marked text pen (a ++ b) old new r
 and-then {text} {old} {mid} {new} {pen} {pen′} {r} {a} {b} v w = record {
-  bytes = subst (λ l. Written old (pen .at) l new) (sym (events-append text a b)) (then (v .at-is ∙ ap (λ n. pen .at + n) (sym (events-length text a))) (v .bytes) (w .bytes));
+  bytes = subst (λ l. Written old (pen .at) l new) (sym (events-append width text a b)) (then (v .at-is ∙ ap (λ n. pen .at + n) (sym (events-length text a))) (v .bytes) (w .bytes));
   at-is = omega (arith, v .at-is, w .at-is, length-append a b);
   stands = w .stands;
 }
@@ -95,5 +93,5 @@ pub ready-on : {text old new : List ℕ} {pen r : Pen} {es : List Event} {j : �
 ready-on m s f w = record { small = s; stands = m .stands; forward = f; within = w }
 
 -- bytes behind the events
-pub and-last : {text old mid new bs : List ℕ} {pen r : Pen} {es : List Event} → Marked text pen es old mid r → Written mid (r .at) bs new → Written old (pen .at) (eventBytes text es ++ bs) new
+pub and-last : {text old mid new bs : List ℕ} {pen r : Pen} {es : List Event} → Marked text pen es old mid r → Written mid (r .at) bs new → Written old (pen .at) (eventBytes width text es ++ bs) new
 and-last {text} {old} {mid} {new} {bs} {pen} {r} {es} m w = then (m .at-is ∙ ap (λ n. pen .at + n) (sym (events-length text es))) (m .bytes) w

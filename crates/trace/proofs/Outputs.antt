@@ -1,15 +1,14 @@
 -- Laws of an entry that traces: refused where the buffer is shorter than the trace, and else written.
 use mathlib.Core.Path.{_≡_, _∙_, ap}
-use mathlib.Core.Bool.{Bool}
 use mathlib.Core.List.{List, _++_}
 use Prim.Native.Nat.{ℕ, _+_, _*_, _<_, _≤_}
 use native.Mathlib.Omega.{arith}
 use lib.ListN.{length, length-append}
 use borrow.Author.Tests.{ne-eqb}
 use Rattle.rules.specs.Reading.{crate as ofCrate}
-use Rattle.rules.specs.Scan.{InlineAnswer, foundInline, noInline, refusedInline, inlineScan, BlockAnswer, foundBlock, noBlock, refusedBlock, blockScan}
+use Rattle.rules.specs.Scan.{InlineAnswer, foundInline, noInline, refusedInline, inlineScan, Found, BlockAnswer, foundBlock, noBlock, refusedBlock, blockScan}
 use Rattle.rules.specs.Refusal.{inlineRefusal, blockRefusal, outputRefusal}
-use Rattle.rules.specs.Trace.{Event, eventBytes, lastBytes, width, inlineTrace, blockTrace}
+use Rattle.rules.specs.Trace.{Event, eventBytes, lastBytes, width, inlineTrace, flowTrace, blockTrace}
 use Rattle.rules.specs.Withhold.{written}
 use Rattle.rules.proofs.Refusals.{output-first, output-short, output-fits}
 use Rattle.trace.specs.Answer.{traced, tracedOf, traceAnswer, inlineTraceRefusal, inlineTraced, inlineBuffer, blockTraceRefusal, blockTraced, blockBuffer, Traces}
@@ -18,16 +17,12 @@ use Rattle.trace.specs.Writing.{eventLength, lastLength}
 use Rattle.trace.specs.declared.tracer.Traced.{Traced}
 use Rattle.trace.specs.declared.tracer.Traced.the-variants.{Length, Refused}
 use Rattle.lexical.proofs.Stores.{from-front}
-use Rattle.trace.proofs.Stores.{field-length}
+use Rattle.trace.proofs.Stores.{last-length}
 use Rattle.trace.proofs.Marks.{events-length}
 
 -- ---- lengths
-pub last-length : (kind stop n : ℕ) → length (lastBytes kind stop n) ≡ lastLength
-unfolding lastBytes width
-last-length kind stop n = simp (length-append, field-length)
-
-pub trace-length : (text : List ℕ) (es : List Event) (kind stop n : ℕ) → length (eventBytes text es ++ lastBytes kind stop n) ≡ eventLength * length es + lastLength
-trace-length text es kind stop n = omega (arith, length-append (eventBytes text es) (lastBytes kind stop n), events-length text es, last-length kind stop n)
+pub trace-length : (text : List ℕ) (es : List Event) (kind stop n : ℕ) → length (eventBytes width text es ++ lastBytes width kind stop n) ≡ eventLength * length es + lastLength
+trace-length text es kind stop n = omega (arith, length-append (eventBytes width text es) (lastBytes width kind stop n), events-length text es, last-length width kind stop n)
 
 -- ---- what is answered
 module _ (trace old : List ℕ) where
@@ -67,7 +62,7 @@ module _ (text : List ℕ) (i k : ℕ) (old : List ℕ) where
   found-by stop c e f t = answers (inline-by 0 (foundInline stop c) e f t)
 
   pub none-by : {r : Traced} {new : List ℕ} (c : ℕ) → inlineScan ofCrate text i k ≡ noInline c → inlineRefusal text i k ≡ 0
-      → Traces (outputRefusal 0 (length old) (lastBytes 13 i c)) (lastBytes 13 i c) old r new → Is r new
+      → Traces (outputRefusal 0 (length old) (lastBytes width 13 i c)) (lastBytes width 13 i c) old r new → Is r new
   unfolding inlineTrace
   none-by c e f t = answers (inline-by 0 (noInline c) e f t)
 
@@ -84,12 +79,13 @@ module _ (text flags : List ℕ) (i : ℕ) (old : List ℕ) where
   unfolding blockTraceRefusal blockTraced blockBuffer
   block-by n a e f t = rw (e, f) (t .answer, t .buffer)
 
-  pub block-found-by : {r : Traced} {new : List ℕ} (kind stop : ℕ) (closed : Bool) → blockScan ofCrate text flags i ≡ foundBlock kind stop closed → blockRefusal text flags i ≡ 0
-      → Traces (outputRefusal 0 (length old) (blockTrace text i (foundBlock kind stop closed))) (blockTrace text i (foundBlock kind stop closed)) old r new → IsBlock r new
-  block-found-by kind stop closed e f t = block-by 0 (foundBlock kind stop closed) e f t
+  pub block-found-by : {r : Traced} {new : List ℕ} (b : Found) (kind : ℕ) → kind ≡ b .kind → blockScan ofCrate text flags i ≡ foundBlock b → blockRefusal text flags i ≡ 0
+      → Traces (outputRefusal 0 (length old) (flowTrace text i kind (b .stop) (b .closed))) (flowTrace text i kind (b .stop) (b .closed)) old r new → IsBlock r new
+  unfolding blockTrace
+  block-found-by b kind k e f t = block-by 0 (foundBlock b) e f (rw k at t)
 
   pub block-none-by : {r : Traced} {new : List ℕ} → blockScan ofCrate text flags i ≡ noBlock → blockRefusal text flags i ≡ 0
-      → Traces (outputRefusal 0 (length old) (lastBytes 14 i 0)) (lastBytes 14 i 0) old r new → IsBlock r new
+      → Traces (outputRefusal 0 (length old) (lastBytes width 14 i 0)) (lastBytes width 14 i 0) old r new → IsBlock r new
   unfolding blockTrace
   block-none-by e f t = block-by 0 noBlock e f t
 

@@ -15,8 +15,8 @@ use Rattle.lexical.specs.declared.event.Point.{Point}
 use Rattle.lexical.proofs.Moves.{point-start}
 use Rattle.lexical.proofs.Run.{run-length}
 use Rattle.rules.specs.Lines.{cutLines}
-use Rattle.rules.specs.Trace.{Event, event, pair, pairOf, htmlText, htmlTextData, htmlFlow, htmlFlowData, textEvents, flowEvents, taken, eventBytes, flowExit, lastBytes, inlineTrace, blockTrace}
-use Rattle.rules.specs.Scan.{foundInline, foundBlock}
+use Rattle.rules.specs.Trace.{width, Event, event, pair, pairOf, htmlText, htmlTextData, htmlFlow, htmlFlowData, textEvents, flowEvents, taken, eventBytes, flowExit, lastBytes, inlineTrace, flowTrace}
+use Rattle.rules.specs.Scan.{foundInline}
 use Rattle.rules.proofs.Cut.{cut-first, content-length, run-content, run-within, space-apart}
 use Rattle.trace.specs.Writing.{eventLength, lastLength}
 use Rattle.trace.specs.Walk.{restEvents, firstTo, indentTo, textPiece, flowPiece, penStart, Ready, Marked}
@@ -67,9 +67,9 @@ module _ (text F : List ℕ) (i stop k : ℕ) (h : i ≤ stop) (w : stop ≤ len
   pub front-length : length F ≡ stop
   front-length = ap length front-is ∙ length-take-le stop text w
 
-  pub text-trace : inlineTrace text i (foundInline stop k) ≡ eventBytes text (textPiece F i stop) ++ lastBytes 13 stop k
+  pub text-trace : inlineTrace text i (foundInline stop k) ≡ eventBytes width text (textPiece F i stop) ++ lastBytes width 13 stop k
   unfolding inlineTrace
-  text-trace = ap (λ es. eventBytes text es ++ lastBytes 13 stop k) (text-events text i stop h ∙ ap (λ s. textPiece s i stop) (sym front-is))
+  text-trace = ap (λ es. eventBytes width text es ++ lastBytes width 13 stop k) (text-events text i stop h ∙ ap (λ s. textPiece s i stop) (sym front-is))
 
   -- by the length that was counted
   module _ (n : ℕ) (c : n ≡ eventLength * length (textPiece F i (length F)) + lastLength) where
@@ -114,13 +114,13 @@ module _ (text F : List ℕ) (i kind stop : ℕ) (closed : Bool) (h : i ≤ stop
   abbrev exit : ℕ
   exit = flowExit text i kind stop closed
 
-  pub flow-trace : blockTrace text i (foundBlock kind stop closed) ≡ eventBytes text (flowPiece F i exit) ++ lastBytes 14 stop kind
-  unfolding blockTrace
-  flow-trace = ap (λ es. eventBytes text es ++ lastBytes 14 stop kind) (flow-events text i exit stop h ∙ ap (λ s. flowPiece s i exit) (sym (front-is text F i stop kind h w e)))
+  pub flow-trace : flowTrace text i kind stop closed ≡ eventBytes width text (flowPiece F i exit) ++ lastBytes width 14 stop kind
+  unfolding flowTrace
+  flow-trace = ap (λ es. eventBytes width text es ++ lastBytes width 14 stop kind) (flow-events text i exit stop h ∙ ap (λ s. flowPiece s i exit) (sym (front-is text F i stop kind h w e)))
 
   module _ (n : ℕ) (c : n ≡ eventLength * length (flowPiece F i 0) + lastLength) where
     pub flow-size : n ≡ eventLength * length (flowPiece F i exit) + lastLength
     flow-size = c ∙ ap (λ m. eventLength * m + lastLength) (same-count F i 0 exit)
 
-    pub flow-trace-length : n ≡ length (blockTrace text i (foundBlock kind stop closed))
+    pub flow-trace-length : n ≡ length (flowTrace text i kind stop closed)
     flow-trace-length = flow-size ∙ sym (ap length flow-trace ∙ trace-length text (flowPiece F i exit) 14 stop kind)

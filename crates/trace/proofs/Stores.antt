@@ -1,13 +1,13 @@
 -- Laws of what a trace stores in a buffer: fields, and the records that consist of them.
 use mathlib.Core.Path.{_≡_, refl, _∙_, ap}
 use mathlib.Core.List.{List, [], _∷_, _++_}
-use Prim.Native.Nat.{ℕ, zero, suc, _+_, _-_, _/_, _%_, _<_, _≤_}
+use Prim.Native.Nat.{ℕ, zero, suc, _+_, _*_, _-_, _/_, _%_, _<_, _≤_}
 use native.Mathlib.Omega.{arith}
-use lib.ListN.{length, set}
+use lib.ListN.{length, set, length-append}
 use Rattle.lexical.specs.declared.event.Point.{Point}
 use Rattle.lexical.specs.Buffer.{stored, Written}
 use Rattle.lexical.proofs.Stores.{single, second, stores}
-use Rattle.rules.specs.Trace.{width, field, pointBytes, lastBytes}
+use Rattle.rules.specs.Trace.{field, pointBytes, lastBytes}
 
 -- ---- fields
 pub field-length : (w n : ℕ) → length (field w n) ≡ w
@@ -31,40 +31,50 @@ field-end l at width i rest h = let e : width - i ≡ 0 = omega arith in rw e
 pub field-start : (l : List ℕ) (at width value : ℕ) → stored l (at + 0) (field (width - 0) value) ≡ stored l at (field width value)
 field-start l at width value = let a : at + 0 ≡ at = omega arith in let w : width - 0 ≡ width = omega arith in rw (a, w)
 
--- ---- records
 -- a field at j, and then bytes behind it
 behind : (l : List ℕ) (j w n : ℕ) (b : List ℕ) → stored (stored l j (field w n)) (j + w) b ≡ stored l j (field w n ++ b)
 behind l j w n b = stores l j (j + w) (field w n) b (omega (arith, field-length w n))
 
--- what is stored for an event, one field behind the other
-event-stored : (l : List ℕ) (at kind : ℕ) (p : Point)
-    → set (stored (stored (stored (set l at kind) (at + 1) (field 2 (p .line))) (at + 1 + 2) (field 2 (p .column))) (at + 1 + 4) (field 2 (p .index))) (at + 1 + 6) (p .vs)
-    ≡ stored l at (kind ∷ pointBytes p)
-unfolding pointBytes width
-event-stored l at kind p =
-    let m = set l at kind in
-    let m2 = stored m (at + 1) (field 2 (p .line)) in
-    let m3 = stored m2 (at + 1 + 2) (field 2 (p .column)) in
-    let a : at + 1 + 4 ≡ at + 1 + 2 + 2 = omega arith in
-    let b : at + 1 + 6 ≡ at + 1 + 2 + 2 + 2 = omega arith in
-    rw (a, b)
-    (single (stored m3 (at + 1 + 2 + 2) (field 2 (p .index))) (at + 1 + 2 + 2 + 2) (p .vs)
-    ∙ behind m3 (at + 1 + 2 + 2) 2 (p .index) (p .vs ∷ [])
-    ∙ behind m2 (at + 1 + 2) 2 (p .column) (field 2 (p .index) ++ (p .vs ∷ []))
-    ∙ behind m (at + 1) 2 (p .line) (field 2 (p .column) ++ (field 2 (p .index) ++ (p .vs ∷ [])))
-    ∙ second l at kind (field 2 (p .line) ++ (field 2 (p .column) ++ (field 2 (p .index) ++ (p .vs ∷ [])))))
+-- ---- records, with fields of w bytes
+module _ (w : ℕ) where
+  pub point-length : (p : Point) → length (pointBytes w p) ≡ 1 + 3 * w
+  unfolding pointBytes
+  point-length p = simp (length-append, field-length) (omega arith)
 
-last-stored : (l : List ℕ) (at kind stop n : ℕ) → set (stored (set l at kind) (at + 1) (field 2 stop)) (at + 1 + 2) n ≡ stored l at (lastBytes kind stop n)
-unfolding lastBytes width
-last-stored l at kind stop n =
-    single (stored (set l at kind) (at + 1) (field 2 stop)) (at + 1 + 2) n
-    ∙ behind (set l at kind) (at + 1) 2 stop (n ∷ [])
-    ∙ second l at kind (field 2 stop ++ (n ∷ []))
+  pub last-length : (kind stop n : ℕ) → length (lastBytes w kind stop n) ≡ 2 + w
+  unfolding lastBytes
+  last-length kind stop n = simp (length-append, field-length) (omega arith)
 
--- the same, by the buffer behind each field
-pub event-steps : {l l1 l2 l3 : List ℕ} {at kind : ℕ} (p : Point) → Written (set l at kind) (at + 1) (field 2 (p .line)) l1
-    → Written l1 (at + 1 + 2) (field 2 (p .column)) l2 → Written l2 (at + 1 + 4) (field 2 (p .index)) l3 → Written l at (kind ∷ pointBytes p) (set l3 (at + 1 + 6) (p .vs))
-event-steps {l} {l1} {l2} {l3} {at} {kind} p e1 e2 e3 = record { is = rw (e3 .is, e2 .is, e1 .is) (event-stored l at kind p) }
+  -- what is stored for an event, one field behind the other
+  event-stored : (l : List ℕ) (at kind : ℕ) (p : Point)
+      → set (stored (stored (stored (set l at kind) (at + 1) (field w (p .line))) (at + 1 + w) (field w (p .column))) (at + 1 + 2 * w) (field w (p .index))) (at + 1 + 3 * w) (p .vs)
+      ≡ stored l at (kind ∷ pointBytes w p)
+  unfolding pointBytes
+  event-stored l at kind p =
+      let m = set l at kind in
+      let m2 = stored m (at + 1) (field w (p .line)) in
+      let m3 = stored m2 (at + 1 + w) (field w (p .column)) in
+      let a : at + 1 + 2 * w ≡ at + 1 + w + w = omega arith in
+      let b : at + 1 + 3 * w ≡ at + 1 + w + w + w = omega arith in
+      rw (a, b)
+      (single (stored m3 (at + 1 + w + w) (field w (p .index))) (at + 1 + w + w + w) (p .vs)
+      ∙ behind m3 (at + 1 + w + w) w (p .index) (p .vs ∷ [])
+      ∙ behind m2 (at + 1 + w) w (p .column) (field w (p .index) ++ (p .vs ∷ []))
+      ∙ behind m (at + 1) w (p .line) (field w (p .column) ++ (field w (p .index) ++ (p .vs ∷ [])))
+      ∙ second l at kind (field w (p .line) ++ (field w (p .column) ++ (field w (p .index) ++ (p .vs ∷ [])))))
 
-pub last-steps : {l l1 : List ℕ} {at : ℕ} (kind stop n : ℕ) → Written (set l at kind) (at + 1) (field 2 stop) l1 → Written l at (lastBytes kind stop n) (set l1 (at + 1 + 2) n)
-last-steps {l} {l1} {at} kind stop n e = record { is = rw (e .is) (last-stored l at kind stop n) }
+  last-stored : (l : List ℕ) (at kind stop n : ℕ) → set (stored (set l at kind) (at + 1) (field w stop)) (at + 1 + w) n ≡ stored l at (lastBytes w kind stop n)
+  unfolding lastBytes
+  last-stored l at kind stop n =
+      single (stored (set l at kind) (at + 1) (field w stop)) (at + 1 + w) n
+      ∙ behind (set l at kind) (at + 1) w stop (n ∷ [])
+      ∙ second l at kind (field w stop ++ (n ∷ []))
+
+  -- the same, by the buffer behind each field
+  pub event-steps : {l l1 l2 l3 : List ℕ} {at kind : ℕ} (p : Point) → Written (set l at kind) (at + 1) (field w (p .line)) l1
+      → Written l1 (at + 1 + w) (field w (p .column)) l2 → Written l2 (at + 1 + 2 * w) (field w (p .index)) l3
+      → Written l at (kind ∷ pointBytes w p) (set l3 (at + 1 + 3 * w) (p .vs))
+  event-steps {l} {l1} {l2} {l3} {at} {kind} p e1 e2 e3 = record { is = rw (e3 .is, e2 .is, e1 .is) (event-stored l at kind p) }
+
+  pub last-steps : {l l1 : List ℕ} {at : ℕ} (kind stop n : ℕ) → Written (set l at kind) (at + 1) (field w stop) l1 → Written l at (lastBytes w kind stop n) (set l1 (at + 1 + w) n)
+  last-steps {l} {l1} {at} kind stop n e = record { is = rw (e .is) (last-stored l at kind stop n) }

@@ -58,11 +58,11 @@ unfoldable pub blockBuffer : List ℕ → List ℕ → ℕ → List ℕ → List
 blockBuffer text flags i old = written (blockTraceRefusal text flags i (length old)) (blockTrace text i (blockScan ofCrate text flags i)) old
 
 -- the refusal of the record in front of s, or 0
-unfoldable pub flawOf : List ℕ → ℕ
-flawOf s =
+unfoldable pub flawOf : ℕ → List ℕ → ℕ
+flawOf w s =
     choose (eqb (length s) 0) (λ _. 9)
     (λ _. choose (eqb (first s) 0 || ltb 14 (first s)) (λ _. 8)
-    (λ _. choose (ltb (length s) (recordLength (first s))) (λ _. 9) (λ _. 0)))
+    (λ _. choose (ltb (length s) (recordLength w (first s))) (λ _. 9) (λ _. 0)))
 
 -- what an entry that traces answers and leaves in the buffer
 pub record Traces (refusal : ℕ) (trace old : List ℕ) (r : Traced) (new : List ℕ) : Type 0 where

@@ -5,8 +5,7 @@ ghost use Prim.Native.Nat.{_+_, _*_, _≤_};
 ghost use lib.ListN.{length};
 ghost use Rattle.lexical.specs.Text.{limit};
 ghost use Rattle.rules.specs.Refusal.{outputRefusal};
-ghost use Rattle.rules.specs.Scan.{foundBlock};
-ghost use Rattle.rules.specs.Trace.{taken, endsEmpty, flowExit, eventBytes, lastBytes, blockTrace};
+ghost use Rattle.rules.specs.Trace.{width, taken, endsEmpty, flowExit, eventBytes, lastBytes, flowTrace};
 ghost use Rattle.trace.specs.Answer.{Traces, tracedOf, blockTraced, blockBuffer};
 ghost use Rattle.lexical.specs.Buffer.{Written};
 ghost use Rattle.trace.specs.Writing.{eventLength, lastLength};
@@ -113,7 +112,7 @@ fn write_flow(
 )
     requires { ⌜ (length (now text) ≤ limit) × (index ≤ length (now front)) × (length (now front) ≤ exit) × (exit ≤ length (now text)) ⌝ }
     requires { ⌜ eventLength * length (flowPiece (now front) index exit) + lastLength ≤ length (now out) ⌝ }
-    ensures { λ r. ⌜ Written (now (out .entry)) 0 (eventBytes (now (text .entry)) (flowPiece (now (front .entry)) index exit) ++ lastBytes 14 stop kind) (now (out .exit)) ⌝ }
+    ensures { λ r. ⌜ Written (now (out .entry)) 0 (eventBytes width (now (text .entry)) (flowPiece (now (front .entry)) index exit) ++ lastBytes width 14 stop kind) (now (out .exit)) ⌝ }
 {
     let pen = mark_flow(text, front, index, exit, out);
     write_last(out, pen.at, LAST_FLOW, stop, kind);
@@ -129,7 +128,7 @@ fn trace_flow(
     out: &mut [u8],
 ) -> Traced
     requires { ⌜ (length (now text) ≤ limit) × (index ≤ stop) × (stop ≤ length (now text)) ⌝ }
-    ensures { λ r. ⌜ Traces (outputRefusal 0 (length (now (out .entry))) (blockTrace (now (text .entry)) index (foundBlock kind stop closed))) (blockTrace (now (text .entry)) index (foundBlock kind stop closed)) (now (out .entry)) r (now (out .exit)) ⌝ }
+    ensures { λ r. ⌜ Traces (outputRefusal 0 (length (now (out .entry))) (flowTrace (now (text .entry)) index kind stop closed)) (flowTrace (now (text .entry)) index kind stop closed) (now (out .entry)) r (now (out .exit)) ⌝ }
 {
     let front = from_indices(text, 0, stop);
     let length = flow_length(front, index);
@@ -147,14 +146,17 @@ pub fn block_trace(bulletin: &[u8], flags: &[u8], index: usize, out: &mut [u8]) 
     ensures { λ r. ⌜ now (out .exit) ≡ blockBuffer (now (bulletin .entry)) (now (flags .entry)) index (now (out .entry)) ⌝ }
 {
     match block_scan(bulletin, flags, index) {
-        Block::Found { kind, stop, closed } => trace_flow(
-            bulletin,
-            index,
-            kind_number(kind),
-            stop,
-            closed,
-            out,
-        ),
+        Block::Found(found) => {
+            let kind = found.kind;
+            trace_flow(
+                bulletin,
+                index,
+                kind_number(kind),
+                found.stop,
+                found.closed,
+                out,
+            )
+        }
         Block::Missing => trace_last(LAST_FLOW, index, 0, out),
         Block::Refused { refusal } => Traced::Refused { refusal },
     }

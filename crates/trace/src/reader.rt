@@ -2,7 +2,7 @@
 ghost use mathlib.Core.Path.{_≡_};
 ghost use Prim.Native.Nat.{_+_, _<_, _≤_};
 ghost use lib.ListN.{length, drop};
-ghost use Rattle.rules.specs.Trace.{number as numberOf, recordLength, recordAt, readTrace};
+ghost use Rattle.rules.specs.Trace.{width as traceWidth, number as numberOf, recordLength, recordAt, readTrace};
 ghost use Rattle.trace.specs.Answer.{flawOf, recordOf};
 
 // 01, Traces: line, column, index and stop have two bytes each, low first.
@@ -55,7 +55,7 @@ fn read_field(trace: &[u8], at: usize, width: usize) -> usize
 
 // The length of a record of a kind.
 fn record_length(kind: u8) -> usize
-    ensures { λ r. ⌜ r ≡ recordLength kind ⌝ }
+    ensures { λ r. ⌜ r ≡ recordLength traceWidth kind ⌝ }
 {
     if kind <= LAST_EVENT {
         return 2 + 3 * WIDTH;
@@ -65,7 +65,7 @@ fn record_length(kind: u8) -> usize
 
 // What is wrong with the record at an index, or 0.
 fn flaw(trace: &[u8], at: usize) -> u8
-    ensures { λ r. ⌜ r ≡ flawOf (drop at (now (trace .entry))) ⌝ }
+    ensures { λ r. ⌜ r ≡ flawOf traceWidth (drop at (now (trace .entry))) ⌝ }
 {
     if at >= trace.len() {
         return CUT_OFF;
@@ -82,7 +82,7 @@ fn flaw(trace: &[u8], at: usize) -> u8
 
 // The record at an index.
 fn record_at(trace: &[u8], at: usize) -> Record
-    ensures { λ r. ⌜ recordOf r ≡ recordAt (drop at (now (trace .entry))) ⌝ }
+    ensures { λ r. ⌜ recordOf r ≡ recordAt traceWidth (drop at (now (trace .entry))) ⌝ }
 {
     let refusal = flaw(trace, at);
     if refusal != 0 {
@@ -108,7 +108,7 @@ fn record_at(trace: &[u8], at: usize) -> Record
 
 // The record of a number, counted from 0. The first bad record on the way decides.
 pub fn read_trace(trace: &[u8], number: usize) -> Record
-    ensures { λ r. ⌜ recordOf r ≡ readTrace number (now (trace .entry)) ⌝ }
+    ensures { λ r. ⌜ recordOf r ≡ readTrace traceWidth number (now (trace .entry)) ⌝ }
 {
     let mut at = 0;
     let mut left = number;

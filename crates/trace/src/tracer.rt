@@ -6,7 +6,7 @@ ghost use lib.ListN.{length};
 ghost use Rattle.lexical.specs.Text.{limit};
 ghost use Rattle.rules.specs.Refusal.{outputRefusal};
 ghost use Rattle.rules.specs.Scan.{foundInline};
-ghost use Rattle.rules.specs.Trace.{eventBytes, lastBytes, inlineTrace};
+ghost use Rattle.rules.specs.Trace.{width, eventBytes, lastBytes, inlineTrace};
 ghost use Rattle.trace.specs.Answer.{tracedOf, inlineTraced, inlineBuffer, Traces};
 ghost use Rattle.lexical.specs.Buffer.{Written};
 ghost use Rattle.trace.specs.Writing.{eventLength, lastLength};
@@ -70,7 +70,7 @@ fn mark_text(text: &[u8], front: &[u8], index: usize, stop: usize, out: &mut [u8
 fn write_text(text: &[u8], front: &[u8], index: usize, stop: usize, carry: u8, out: &mut [u8])
     requires { ⌜ (length (now text) ≤ limit) × (index ≤ length (now front)) × (length (now front) ≤ stop) × (stop ≤ length (now text)) ⌝ }
     requires { ⌜ eventLength * length (textPiece (now front) index stop) + lastLength ≤ length (now out) ⌝ }
-    ensures { λ r. ⌜ Written (now (out .entry)) 0 (eventBytes (now (text .entry)) (textPiece (now (front .entry)) index stop) ++ lastBytes 13 stop carry) (now (out .exit)) ⌝ }
+    ensures { λ r. ⌜ Written (now (out .entry)) 0 (eventBytes width (now (text .entry)) (textPiece (now (front .entry)) index stop) ++ lastBytes width 13 stop carry) (now (out .exit)) ⌝ }
 {
     let pen = mark_text(text, front, index, stop, out);
     write_last(out, pen.at, LAST_TEXT, stop, carry);
@@ -92,7 +92,7 @@ fn trace_text(text: &[u8], index: usize, stop: usize, carry: u8, out: &mut [u8])
 
 // The trace of a scan that finds nothing, or the refusal of it.
 pub(crate) fn trace_last(kind: u8, index: usize, value: u8, out: &mut [u8]) -> Traced
-    ensures { λ r. ⌜ Traces (outputRefusal 0 (length (now (out .entry))) (lastBytes kind index value)) (lastBytes kind index value) (now (out .entry)) r (now (out .exit)) ⌝ }
+    ensures { λ r. ⌜ Traces (outputRefusal 0 (length (now (out .entry))) (lastBytes width kind index value)) (lastBytes width kind index value) (now (out .entry)) r (now (out .exit)) ⌝ }
 {
     if out.len() < LAST_LENGTH {
         return Traced::Refused { refusal: NO_ROOM };

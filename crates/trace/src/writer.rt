@@ -2,7 +2,7 @@
 ghost use mathlib.Core.List.{_∷_};
 ghost use Prim.Native.Nat.{_+_, _*_, _<_, _≤_};
 ghost use lib.ListN.{length};
-ghost use Rattle.rules.specs.Trace.{field, pointBytes, lastBytes};
+ghost use Rattle.rules.specs.Trace.{width as traceWidth, field, pointBytes, lastBytes};
 ghost use Rattle.lexical.specs.Buffer.{Written};
 ghost use Rattle.trace.specs.Writing.{eventLength, lastLength};
 use crate::reader::WIDTH;
@@ -31,7 +31,7 @@ fn write_field(out: &mut [u8], at: usize, width: usize, value: usize)
 pub(crate) fn write_event(out: &mut [u8], at: usize, kind: u8, point: Point)
     requires { ⌜ at + eventLength ≤ length (now out) ⌝ }
     requires { ⌜ point .vs < 256 ⌝ }
-    ensures { λ r. ⌜ Written (now (out .entry)) at (kind ∷ pointBytes point) (now (out .exit)) ⌝ }
+    ensures { λ r. ⌜ Written (now (out .entry)) at (kind ∷ pointBytes traceWidth point) (now (out .exit)) ⌝ }
 {
     let from = at + 1;
     out[at] = kind;
@@ -44,7 +44,7 @@ pub(crate) fn write_event(out: &mut [u8], at: usize, kind: u8, point: Point)
 // The last record: its kind, the stop, and the carry or the block kind.
 pub(crate) fn write_last(out: &mut [u8], at: usize, kind: u8, stop: usize, value: u8)
     requires { ⌜ at + lastLength ≤ length (now out) ⌝ }
-    ensures { λ r. ⌜ Written (now (out .entry)) at (lastBytes kind stop value) (now (out .exit)) ⌝ }
+    ensures { λ r. ⌜ Written (now (out .entry)) at (lastBytes traceWidth kind stop value) (now (out .exit)) ⌝ }
 {
     let from = at + 1;
     out[at] = kind;

@@ -1,31 +1,35 @@
--- Each arm knows the answer of the scan. What a found block has is the number of its kind, its stop, and 1 or 0 for the closer.
+-- Each arm knows the answer of the scan. A found block is handed on field by field: the number of its kind, and 1 or 0 for the closer.
 use mathlib.Core.Path.{_≡_, refl, sym, ap, _∙_}
 use Prim.Native.Nat.{ℕ}
 use mathlib.Core.Bool.{Bool, true, false}
 use mir.Val.{boolByte}
-use Rattle.rules.specs.Scan.{foundBlock}
+use Rattle.rules.specs.Scan.{Found, BlockAnswer, foundBlock}
 use Rattle.flow.specs.Answer.{blockAnswerOf}
 use Rattle.foringamo.specs.declared.block.BlockResult.{BlockResult}
-use Rattle.foringamo.specs.Result.{blockResult}
+use Rattle.foringamo.specs.Result.{flag, blockResult}
 use borrow.Author.Needs.{needs}
 use Rattle.foringamo.proofs.block.foringamo_block_scan.Statement.{statement}
 use Rattle.foringamo.proofs.block.foringamo_block_scan.Tie as tie
 
-found : (kind stop : ℕ) (closed : Bool) → _≡_ {A = BlockResult} (record { refusal = 0; kind = kind; closed = boolByte closed; stop = stop }) (blockResult (foundBlock kind stop closed))
-found kind stop true = refl
-found kind stop false = refl
+flag-is : (b : Bool) → boolByte b ≡ flag b
+flag-is true = refl
+flag-is false = refl
+
+found : {a : BlockAnswer} (b : Found) (kind : ℕ) → kind ≡ b .kind → foundBlock b ≡ a
+    → _≡_ {A = BlockResult} (record { refusal = 0; kind = kind; closed = boolByte (b .closed); stop = b .stop }) (blockResult a)
+found b kind k e = rw (k, flag-is (b .closed)) (ap blockResult e)
 
 block-scan-requires : tie.Need-block-scan-requires
 block-scan-requires c κs = search needs
 
-enum-known-kind : tie.Need-enum-known-kind
-enum-known-kind c = search needs
+enum-known-found : tie.Need-enum-known-found
+enum-known-found c = search needs
 
 kind-number-requires : tie.Need-kind-number-requires
 kind-number-requires c κs = search needs
 
-cast-t11 : tie.Need-cast-t11
-cast-t11 c = search needs
+cast-t10 : tie.Need-cast-t10
+cast-t10 c = search needs
 
 enum-told : tie.Need-enum-told
 enum-told c = search needs
@@ -35,9 +39,7 @@ enum-known-refusal c = search needs
 
 returns : tie.Need-returns
 returns c =
-    let g = c .before .before .kind .given in
-    let e = ap (λ k. foundBlock k (g .0 .1 .0) (g .0 .1 .1 .0)) (c .kind-number .ensures) ∙ sym (ap blockAnswerOf (g .1)) ∙ c .before .before .before .before .block-scan .ensures in
-    found _ _ (g .0 .1 .1 .0) ∙ ap blockResult e
+    found _ _ (c .before .kind-number .ensures) (sym (ap blockAnswerOf (c .before .before .before .found .given .1)) ∙ c .before .before .before .before .before .block-scan .ensures)
 
 returns-2 : tie.Need-returns-2
 returns-2 c = ap blockResult (sym (ap blockAnswerOf (c .enum-told .given .1)) ∙ c .before .before .block-scan .ensures)
@@ -50,9 +52,9 @@ foringamo-block-scan-spec =
     tie.close
     (tie.spec
     block-scan-requires
-    enum-known-kind
+    enum-known-found
     kind-number-requires
-    cast-t11
+    cast-t10
     enum-told
     enum-known-refusal
     returns

@@ -11,11 +11,11 @@ use Rattle.screen.proofs.pieces.line_turn.Tie as tie
 block-at-requires : tie.Need-block-at-requires
 block-at-requires c κs = search needs
 
-enum-known-stop : tie.Need-enum-known-stop
-enum-known-stop c = search needs
+enum-known-found : tie.Need-enum-known-found
+enum-known-found c = search needs
 
 block-line-requires : tie.Need-block-line-requires
-block-line-requires c κs = (c .before .before .before .before .before .before .pre, record { kind = _; closed = _; is = sym (c .before .before .before .block-at .ensures) ∙ ap blockAnswerOf (c .before .stop .given .1) })
+block-line-requires c κs = (c .before .before .before .before .before .before .pre, record { found = _; stops = refl; is = sym (c .before .before .before .block-at .ensures) ∙ ap blockAnswerOf (c .before .found .given .1) })
 
 enum-told : tie.Need-enum-told
 enum-told c = search needs
@@ -42,7 +42,7 @@ line-turn-spec =
     tie.close
     (tie.spec
     block-at-requires
-    enum-known-stop
+    enum-known-found
     block-line-requires
     enum-told
     text-line-requires

@@ -1,5 +1,4 @@
 use mathlib.Core.Path.{sym, _∙_, ap}
-use Rattle.rules.specs.Scan.{foundBlock}
 use Rattle.flow.specs.Answer.{blockAnswerOf}
 use Rattle.trace.proofs.Outputs.{block-found-by, block-none-by, block-refused-by}
 use Rattle.trace.proofs.BlockStops.{block-admitted, block-between, block-found-passes, block-found-at, block-none-passes, block-refused-number, block-refused-some}
@@ -10,18 +9,17 @@ use Rattle.trace.proofs.block.block_trace.Tie as tie
 block-scan-requires : tie.Need-block-scan-requires
 block-scan-requires c κs = search needs
 
-enum-known-kind : tie.Need-enum-known-kind
-enum-known-kind c = search needs
+enum-known-found : tie.Need-enum-known-found
+enum-known-found c = search needs
 
 kind-number-requires : tie.Need-kind-number-requires
 kind-number-requires c κs = search needs
 
 trace-flow-requires : tie.Need-trace-flow-requires
 trace-flow-requires c κs = let a = c .before .before .before .before .before .before .before .before .before .args in
-    let g = c .before .before .before .kind .given .0 in
-    let e = sym (c .before .before .before .before .before .block-scan .ensures) ∙ ap blockAnswerOf (c .before .before .before .kind .given .1) ∙ ap (λ t. foundBlock t (g .1 .0) (g .1 .1 .0)) (sym (c .before .kind-number .ensures)) in
-    let m = block-admitted (a .bulletin .now) (a .flags .now) (a .index) (block-found-passes (a .bulletin .now) (a .flags .now) (a .index) _ _ _ e) in
-    let b = block-between (a .bulletin .now) (a .flags .now) (a .index) (m .within) _ _ _ (block-found-at (a .bulletin .now) (a .flags .now) (a .index) _ _ _ e) in
+    let e = sym (c .before .before .before .before .before .block-scan .ensures) ∙ ap blockAnswerOf (c .before .before .before .found .given .1) in
+    let m = block-admitted (a .bulletin .now) (a .flags .now) (a .index) (block-found-passes (a .bulletin .now) (a .flags .now) (a .index) _ e) in
+    let b = block-between (a .bulletin .now) (a .flags .now) (a .index) (m .within) _ (block-found-at (a .bulletin .now) (a .flags .now) (a .index) _ e) in
     (m .small, b .from, b .to)
 
 enum-told : tie.Need-enum-told
@@ -38,9 +36,8 @@ same-length c = search needs
 
 returns : tie.Need-returns
 returns c = let a = c .before .before .before .before .before .before .before .before .before .before .before .before .args in
-    let g = c .before .before .before .before .before .before .kind .given .0 in
-    let e = sym (c .before .before .before .before .before .before .before .before .block-scan .ensures) ∙ ap blockAnswerOf (c .before .before .before .before .before .before .kind .given .1) ∙ ap (λ t. foundBlock t (g .1 .0) (g .1 .1 .0)) (sym (c .before .before .before .before .kind-number .ensures)) in
-    block-found-by (a .bulletin .now) (a .flags .now) (a .index) (a .out .now) _ _ _ e (block-found-passes (a .bulletin .now) (a .flags .now) (a .index) _ _ _ e) (c .before .before .trace-flow .ensures)
+    let e = sym (c .before .before .before .before .before .before .before .before .block-scan .ensures) ∙ ap blockAnswerOf (c .before .before .before .before .before .before .found .given .1) in
+    block-found-by (a .bulletin .now) (a .flags .now) (a .index) (a .out .now) _ _ (c .before .before .before .before .kind-number .ensures) e (block-found-passes (a .bulletin .now) (a .flags .now) (a .index) _ e) (c .before .before .trace-flow .ensures)
 
 same-length-2 : tie.Need-same-length-2
 same-length-2 c = search needs
@@ -60,7 +57,7 @@ block-trace-spec =
     tie.close
     (tie.spec
     block-scan-requires
-    enum-known-kind
+    enum-known-found
     kind-number-requires
     trace-flow-requires
     enum-told

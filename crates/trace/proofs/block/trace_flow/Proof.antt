@@ -3,7 +3,7 @@ use mathlib.Core.Path.{sym, _∙_, ap}
 use native.Mathlib.Omega.{arith}
 use mathlib.Core.List.{_++_}
 use lib.ListN.{length}
-use Rattle.rules.specs.Trace.{eventBytes, lastBytes}
+use Rattle.rules.specs.Trace.{width, eventBytes, lastBytes}
 use Rattle.trace.specs.Walk.{flowPiece}
 use Rattle.lexical.proofs.Stores.{written-as}
 use Rattle.trace.proofs.Outputs.{not-traced, is-traced}
@@ -57,7 +57,7 @@ returns-2 c =
     let F = c .before .before .before .before .before .before .before .from-indices .result .now in
     let z = flow-trace-length (a .text .now) F (a .index) (a .kind) (a .stop) (a .closed) (pre .1) (pre .2) (c .before .before .before .before .before .before .before .from-indices .ensures) n (c .before .before .before .before .before .before .flow-length .ensures) in
     let t = flow-trace (a .text .now) F (a .index) (a .kind) (a .stop) (a .closed) (pre .1) (pre .2) (c .before .before .before .before .before .before .before .from-indices .ensures) in
-    is-traced _ _ n z (c .before .before .before .before .before .if1 .left) (written-as _ (t ∙ ap (λ e. eventBytes (a .text .now) (flowPiece F (a .index) e) ++ lastBytes 14 (a .stop) (a .kind)) (sym (c .before .before .before .before .flow-exit .ensures))) (c .before .before .write-flow .ensures))
+    is-traced _ _ n z (c .before .before .before .before .before .if1 .left) (written-as _ (t ∙ ap (λ e. eventBytes width (a .text .now) (flowPiece F (a .index) e) ++ lastBytes width 14 (a .stop) (a .kind)) (sym (c .before .before .before .before .flow-exit .ensures))) (c .before .before .write-flow .ensures))
 
 pub trace-flow-spec : {M : Type 1} → statement M
 trace-flow-spec =

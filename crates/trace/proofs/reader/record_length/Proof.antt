@@ -11,14 +11,14 @@ add-result : tie.Need-add-result
 add-result c = search needs
 
 returns : tie.Need-returns
-unfolding width recordLength
+unfolding recordLength
 returns c = simp (le-leb _ _ (c .if1 .taken))
 
 add-result-2 : tie.Need-add-result-2
 add-result-2 c = search needs
 
 returns-2 : tie.Need-returns-2
-unfolding width recordLength
+unfolding recordLength
 returns-2 c = simp (lt-leb _ _ (c .if1 .left))
 
 pub record-length-spec : {M : Type 1} → statement M

@@ -3,6 +3,7 @@ use mathlib.Core.Path.{_∙_}
 use native.Mathlib.Omega.{arith}
 use Rattle.lexical.proofs.Stores.{same-set, same}
 use Rattle.trace.proofs.Stores.{event-steps}
+use Rattle.rules.specs.Trace.{width}
 use borrow.Author.Needs.{needs}
 use Rattle.trace.proofs.writer.write_event.Statement.{statement}
 use Rattle.trace.proofs.writer.write_event.Tie as tie
@@ -57,7 +58,7 @@ same-length c =
 returns : tie.Need-returns
 returns c =
     let a = c .before .before .before .before .before .before .before .before .before .before .before .before .before .before .args in
-    event-steps (a .point) (c .before .before .before .before .before .before .before .before .before .before .before .write-field .ensures) (c .before .before .before .before .before .before .before .write-field2 .ensures) (c .before .before .before .write-field3 .ensures)
+    event-steps width (a .point) (c .before .before .before .before .before .before .before .before .before .before .before .write-field .ensures) (c .before .before .before .before .before .before .before .write-field2 .ensures) (c .before .before .before .write-field3 .ensures)
 
 pub write-event-spec : {M : Type 1} → statement M
 write-event-spec =

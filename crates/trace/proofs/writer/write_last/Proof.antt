@@ -2,6 +2,7 @@ use mathlib.Core.Path.{_∙_}
 use native.Mathlib.Omega.{arith}
 use Rattle.lexical.proofs.Stores.{same-set, same}
 use Rattle.trace.proofs.Stores.{last-steps}
+use Rattle.rules.specs.Trace.{width}
 use borrow.Author.Needs.{needs}
 use Rattle.trace.proofs.writer.write_last.Statement.{statement}
 use Rattle.trace.proofs.writer.write_last.Tie as tie
@@ -31,7 +32,7 @@ same-length c =
 returns : tie.Need-returns
 returns c =
     let a = c .before .before .before .before .before .args in
-    last-steps (a .kind) (a .stop) (a .value) (c .before .before .write-field .ensures)
+    last-steps width (a .kind) (a .stop) (a .value) (c .before .before .write-field .ensures)
 
 pub write-last-spec : {M : Type 1} → statement M
 write-last-spec =
