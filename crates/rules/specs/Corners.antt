@@ -4,6 +4,7 @@ use mathlib.Core.Path.{_≡_, refl}
 use mathlib.Core.Bool.{Bool, true, false, _&&_}
 use mathlib.Core.List.{List, [], _∷_, _++_}
 use lib.Dec.{eqb}
+use lib.ListN.{replicate}
 use Rattle.lexical.specs.Text.{bytes, limit}
 use Rattle.lexical.specs.Name.{all, sameBytes}
 use Rattle.rules.specs.Reading.{crate}
@@ -11,7 +12,6 @@ use Rattle.rules.specs.Scan.{InlineAnswer, foundInline, noInline, refuse
 use Rattle.rules.specs.Withhold.{Shown, shows, refusedShown, withhold, written}
 use Rattle.rules.specs.Rows.{sameInline, sameBlock, inlineRow, blockRow}
 use Rattle.rules.specs.Computing.{computing}
-use Rattle.rules.specs.Witness.{zeros}
 
 abbrev pub found : ℕ → ℕ → Bool → BlockAnswer
 found kind stop closed = foundBlock kind stop closed
@@ -51,7 +51,7 @@ blocks =
 
 -- one byte more than the limit
 abbrev pub long : List ℕ
-long = zeros limit
+long = replicate (limit + 1) 0
 
 -- refusals: the first that applies, down the table
 unfoldable pub refusals : List Bool

@@ -57,10 +57,11 @@ abbrev pub needed : Rules → Excluded → Bool
 needed ρ (excluded b r) =
     not (sameShown ρ r) && (not (isPrivate b) && (consists (λ x. isPrivate x || eqb x b) r && (asSaid ρ r && taken r)))
 
--- private lines that no block of kinds 1 to 5 encloses: in a paragraph, and in blocks of kinds 6 and 7, which a blank line ends
+-- private lines that no block of kinds 1 to 5 encloses: in a paragraph, in an inline piece, and in blocks of kinds 6 and 7, which a blank line ends
 unfoldable pub loose : List Row
 loose =
     whole 0 (bytes "a") (bytes "x" ∷ []) (bytes "y" ∷ []) (bytes "b")
+    ∷ whole 0 (bytes "a <!--") (bytes "x" ∷ []) ([] ∷ []) (bytes "-->")
     ∷ whole 6 (bytes "<div>") (bytes "x" ∷ []) ([] ∷ []) (bytes "b")
     ∷ whole 7 (bytes "<i>") (bytes "x" ∷ []) ([] ∷ []) (bytes "b")
     ∷ []

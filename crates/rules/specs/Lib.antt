@@ -13,6 +13,6 @@ pub mod Changes
 pub mod Examples
 pub mod Private
 pub mod Computing
+pub mod Corners
 pub mod Witness
 pub mod Counterexamples
-pub mod Corners

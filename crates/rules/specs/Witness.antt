@@ -5,10 +5,10 @@ use mathlib.Core.Path.{_≡_, refl, sym}
 use mathlib.Core.Bool.{Bool, true, false, _&&_, _||_, not}
 use mathlib.Core.List.{List, [], _∷_, _++_}
 use lib.Dec.{eqb}
-use lib.ListN.{length}
+use lib.ListN.{length, replicate}
 use Rattle.lexical.specs.Text.{byte, bytes, pick}
-use Rattle.lexical.specs.Line.{lineEndings}
-use Rattle.lexical.specs.Name.{all}
+use Rattle.lexical.specs.Line.{lines}
+use Rattle.lexical.specs.Name.{all, sameBytes}
 use Rattle.rules.specs.Reading.{Change, F1, F2, F3, F4, F5, F6, T1, T2, crate, standard, without}
 use Rattle.rules.specs.Refusal.{bulletinRefusal}
 use Rattle.rules.specs.Scan.{InlineAnswer, foundInline, noInline, refusedInline, inlineScan, BlockAnswer, foundBlock, noBlock, refusedBlock, blockScan}
@@ -104,13 +104,13 @@ abbrev pub finds : Place → Rules → Bool
 finds (inText text k) ρ = isFoundInline (inlineScan ρ text 0 k)
 finds (inBulletin text flags) ρ = isFoundBlock (blockScan ρ text flags 0)
 
-unfoldable pub places : List Bool
-places =
-    -- at its place c applies, no other does, and the answer is not the standard's
-    all (λ c. only c (λ d. not (agree (place c) crate (without d))) && not (agree (place c) crate standard)) changes
-    -- nowhere does one apply, and something is found
-    ∷ all (λ p. all (λ c. agree p crate (without c)) changes && finds p crate) calm
-    ∷ []
+-- a change applies, no other does, and the answer is not the standard's
+abbrev pub appliesAlone : Change → Place → Bool
+appliesAlone c p = only c (λ d. not (agree p crate (without d))) && not (agree p crate standard)
+
+-- none applies, and something is found
+abbrev pub noneApplies : Place → Bool
+noneApplies p = all (λ c. agree p crate (without c)) changes && finds p crate
 
 -- where none applies, every change is spared
 pub spares-tag : (c : Change) → Spares (λ ρ. inlineScan ρ (bytes "<b>") 0 0) c
@@ -147,6 +147,15 @@ privates (suc n) = pick (isPrivate n) 1 0 + privates n
 -- 01: all bytes but nine
 pub all-but-nine : privates 256 ≡ 247
 all-but-nine = refl
+
+-- 01: the bytes between `<!--` and `-->`, `<?` and `?>`, `<!` with a letter and `>`, or `<![CDATA[` and `]]>`
+unfoldable pub forms : List Bool
+forms =
+    sameBytes (around comment (bytes "x")) (bytes "<!--x-->")
+    ∷ sameBytes (around instruction (bytes "x")) (bytes "<?x?>")
+    ∷ sameBytes (around (declaration (byte "A") refl) (bytes "x")) (bytes "<!Ax>")
+    ∷ sameBytes (around cdata (bytes "x")) (bytes "<![CDATA[x]]>")
+    ∷ []
 
 -- a swap of bodies and one of lines, written out
 pub comment-swap : Swap crate (0 ∷ []) (bytes "a <!--x y--> b") (bytes "a <!--xyz=/--> b")
@@ -189,12 +198,8 @@ two (body k b f x y a) = b ++ (around f y ++ a)
 two (whole k b x y a) = (b ++ (byte "\n" ∷ [])) ++ (linesText y ++ a)
 
 -- all flags 0
-abbrev pub zeros : ℕ → List ℕ
-zeros zero = 0 ∷ []
-zeros (suc n) = 0 ∷ zeros n
-
 abbrev pub flags : Row → List ℕ
-flags r = zeros (lineEndings (one r))
+flags r = replicate (lines (one r)) 0
 
 -- both pieces pass a test of bytes, and there are as many lines
 abbrev pub consists : (ℕ → Bool) → Row → Bool
@@ -238,6 +243,8 @@ swaps =
     ∷ body 0 (bytes "a ") cdata (bytes "&amp;") (bytes "[") (bytes "b")
     ∷ body 0 (bytes "a ") comment [] (bytes "x") []
     ∷ body 0 (bytes "a ") comment (bytes "x") [] []
+    -- not the first piece
+    ∷ body 0 (bytes "<b> a ") comment (bytes "x") (bytes "yz") []
     -- in a quoted value of a tag
     ∷ body 0 (bytes "a <b c=\"") comment (bytes "x") (bytes "yz") (bytes "\">")
     -- in a block: as the whole of one, and among the lines of another
@@ -251,7 +258,7 @@ swaps =
     ∷ whole 3 (bytes "<?") (bytes "x" ∷ []) (bytes "y z" ∷ []) (bytes "?>")
     ∷ whole 4 (bytes "<!A") (bytes "x" ∷ []) (bytes "y z" ∷ []) (bytes ">")
     ∷ whole 5 (bytes "<![CDATA[") (bytes "x" ∷ []) (bytes "y z" ∷ []) (bytes "]]>")
-    ∷ whole 2 (bytes "a\n<!-- b") (bytes "x" ∷ [] ∷ []) (bytes "y z" ∷ bytes "=" ∷ []) (bytes "c --> d\ne")
+    ∷ whole 2 (bytes "a <b>\n<!-- c") (bytes "x" ∷ [] ∷ []) (bytes "y z" ∷ bytes "=" ∷ []) (bytes "d --> e\nf")
     ∷ whole 2 (bytes "<!--") [] [] (bytes "-->")
     ∷ []
 
@@ -260,9 +267,24 @@ pub readings-hold : all (λ b. b) readings ≡ true
 unfolding computing readings
 readings-hold = refl
 
-pub places-hold : all (λ b. b) places ≡ true
-unfolding computing places
-places-hold = refl
+pub forms-hold : all (λ b. b) forms ≡ true
+unfolding computing forms
+forms-hold = refl
+
+pub each-applies : (c : Change) → appliesAlone c (place c) ≡ true
+unfolding computing
+each-applies F1 = refl
+each-applies F2 = refl
+each-applies F3 = refl
+each-applies F4 = refl
+each-applies F5 = refl
+each-applies F6 = refl
+each-applies T1 = refl
+each-applies T2 = refl
+
+pub none-there : all noneApplies calm ≡ true
+unfolding computing
+none-there = refl
 
 -- every row is a swap, in the reading of the Rust and in the standard one
 pub swaps-meet : (all (meets crate) swaps && all (meets standard) swaps) ≡ true
