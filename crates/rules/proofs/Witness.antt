@@ -1,7 +1,7 @@
 -- The tables of specs/Witness.antt and specs/Counterexamples.antt, said of the statements. A row's tests are the premises of demand 3 one by one, so that a row
 -- which meets them is a swap. A test that tells two answers or two texts apart passes a thing and itself, so what it tells apart is not equal.
 use mathlib.Core.Path.{_≡_, refl, sym, _∙_, ap}
-use mathlib.Core.Bool.{Bool, true, false, _&&_, _||_, not}
+use mathlib.Core.Bool.{Bool, true, false, _&&_, not}
 use mathlib.Core.List.{List, [], _∷_, _++_}
 use Prim.Native.Nat.{ℕ}
 use lib.Dec.{eqb}
@@ -9,15 +9,15 @@ use lib.ListN.{length}
 use borrow.Author.Tests.{eqb-true, eq-eqb, not-true}
 use Rattle.lexical.specs.Name.{all, sameBytes}
 use Rattle.lexical.proofs.Cases.{clash, and-left, and-right}
-use Rattle.rules.specs.Reading.{Change, F1, F2, F3, F4, F5, F6, T1, T2, crate, standard}
+use Rattle.rules.specs.Reading.{Change, crate, standard}
 use Rattle.rules.specs.Scan.{inlineScan, blockScan}
 use Rattle.rules.specs.Changes.{Spares}
 use Rattle.rules.specs.Withhold.{count}
 use Rattle.rules.specs.Private.{isPrivate, Swap, in-line, in-block, SameRuns}
 use Rattle.rules.specs.Rows.{sameInline, sameBlock}
 use Rattle.rules.specs.Computing.{computing}
-use Rattle.rules.specs.Witness.{Place, inText, inBulletin, place, Row, body, whole, one, two, flags, consists, withheld, meets, swaps, swaps-meet}
-use Rattle.rules.specs.Counterexamples.{sameShown, sameCount, Excluded, excluded, bodies, brackets, needed, bytes-needed, loose, unheld, withholding-needed, counted, count-tells}
+use Rattle.rules.specs.Witness.{eight, Place, inText, inBulletin, place, Row, body, whole, one, two, flags, consists, withheld, meets, swaps, swaps-meet}
+use Rattle.rules.specs.Counterexamples.{sameShown, sameCount, Excluded, excluded, bodies, brackets, needed, bytes-needed, bare, loose, unheld, enclosing-needed, counted, count-tells}
 use Rattle.rules.specs.declared.Rules.{Rules}
 
 -- every entry of a list has a property
@@ -85,8 +85,8 @@ unheld-differ ρ r h = differ ρ r (and-left (not (sameShown ρ r)) _ h)
 pub bytes-differ : Each (λ e. Differ crate (rowOf e)) (brackets ++ bodies)
 bytes-differ = each _ (needed crate) (needed-differ crate) (brackets ++ bodies) (and-left (all (needed crate) (brackets ++ bodies)) (all (needed standard) bodies) bytes-needed)
 
-pub loose-differ : Each (Differ crate) loose
-loose-differ = each (Differ crate) (unheld crate) (unheld-differ crate) loose (and-left (all (unheld crate) loose) (all (unheld standard) loose) withholding-needed)
+pub loose-differ : Each (Differ crate) (bare ∷ loose)
+loose-differ = each (Differ crate) (unheld crate) (unheld-differ crate) (bare ∷ loose) (and-left (all (unheld crate) (bare ∷ loose)) _ enclosing-needed)
 
 -- the count alone
 pub count-differs : Differ crate counted
@@ -101,11 +101,8 @@ SparesAt (inBulletin text flags) c = Spares (λ ρ. blockScan ρ text flags 0) c
 -- each change applies at its place
 pub applies : (c : Change) → ¬ (SparesAt (place c) c)
 unfolding computing
-applies F1 = told-apart sameBlock _ _ refl refl
-applies F2 = told-apart sameBlock _ _ refl refl
-applies F3 = told-apart sameBlock _ _ refl refl
-applies F4 = told-apart sameBlock _ _ refl refl
-applies F5 = told-apart sameBlock _ _ refl refl
-applies F6 = told-apart sameBlock _ _ refl refl
-applies T1 = told-apart sameInline _ _ refl refl
-applies T2 = told-apart sameInline _ _ refl refl
+applies =
+    eight (λ c. ¬ (SparesAt (place c) c))
+    (told-apart sameBlock _ _ refl refl) (told-apart sameBlock _ _ refl refl) (told-apart sameBlock _ _ refl refl)
+    (told-apart sameBlock _ _ refl refl) (told-apart sameBlock _ _ refl refl) (told-apart sameBlock _ _ refl refl)
+    (told-apart sameInline _ _ refl refl) (told-apart sameInline _ _ refl refl)

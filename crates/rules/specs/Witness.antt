@@ -34,6 +34,17 @@ number F6 = 6
 number T1 = 7
 number T2 = 8
 
+-- what is proved of each of the eight
+abbrev pub eight : (P : Change → Type 0) → P F1 → P F2 → P F3 → P F4 → P F5 → P F6 → P T1 → P T2 → (c : Change) → P c
+eight P f1 f2 f3 f4 f5 f6 t1 t2 F1 = f1
+eight P f1 f2 f3 f4 f5 f6 t1 t2 F2 = f2
+eight P f1 f2 f3 f4 f5 f6 t1 t2 F3 = f3
+eight P f1 f2 f3 f4 f5 f6 t1 t2 F4 = f4
+eight P f1 f2 f3 f4 f5 f6 t1 t2 F5 = f5
+eight P f1 f2 f3 f4 f5 f6 t1 t2 F6 = f6
+eight P f1 f2 f3 f4 f5 f6 t1 t2 T1 = t1
+eight P f1 f2 f3 f4 f5 f6 t1 t2 T2 = t2
+
 -- whether a reading makes a change
 abbrev pub makes : Rules → Change → Bool
 makes ρ F1 = ρ .f1
@@ -56,6 +67,10 @@ readings =
     ∷ all (λ c. not (makes standard c)) changes
     ∷ all (λ c. only c (λ d. not (makes (without c) d))) changes
     ∷ []
+
+pub readings-hold : all (λ b. b) readings ≡ true
+unfolding computing readings
+readings-hold = refl
 
 -- a place of a scan, at index 0: a text with a carry, or a bulletin with its flags
 pub data Place : Type 0 where
@@ -112,31 +127,22 @@ appliesAlone c p = only c (λ d. not (agree p crate (without d))) && not (agree 
 abbrev pub noneApplies : Place → Bool
 noneApplies p = all (λ c. agree p crate (without c)) changes && finds p crate
 
--- where none applies, every change is spared
+pub each-applies : (c : Change) → appliesAlone c (place c) ≡ true
+unfolding computing
+each-applies = eight (λ c. appliesAlone c (place c) ≡ true) refl refl refl refl refl refl refl refl
+
+pub none-there : all noneApplies calm ≡ true
+unfolding computing
+none-there = refl
+
+-- and as demand 2 has it: every change is spared
 pub spares-tag : (c : Change) → Spares (λ ρ. inlineScan ρ (bytes "<b>") 0 0) c
 unfolding computing
-spares-tag F1 = refl
-spares-tag F2 = refl
-spares-tag F3 = refl
-spares-tag F4 = refl
-spares-tag F5 = refl
-spares-tag F6 = refl
-spares-tag T1 = refl
-spares-tag T2 = refl
+spares-tag = eight (Spares (λ ρ. inlineScan ρ (bytes "<b>") 0 0)) refl refl refl refl refl refl refl refl
 
 -- what demand 2 says is not so of every answer: two changes can stand in for each other, so that neither applies
 pub not-of-all : Unchanged (λ ρ. ρ .f1 || ρ .f2) → true ≡ false
-not-of-all same = same spared
-  where
-    spared : (c : Change) → Spares (λ ρ. ρ .f1 || ρ .f2) c
-    spared F1 = refl
-    spared F2 = refl
-    spared F3 = refl
-    spared F4 = refl
-    spared F5 = refl
-    spared F6 = refl
-    spared T1 = refl
-    spared T2 = refl
+not-of-all same = same (eight (Spares (λ ρ. ρ .f1 || ρ .f2)) refl refl refl refl refl refl refl refl)
 
 -- ---- demand 3: private pieces
 -- how many bytes below n are private
@@ -156,6 +162,10 @@ forms =
     ∷ sameBytes (around (declaration (byte "A") refl) (bytes "x")) (bytes "<!Ax>")
     ∷ sameBytes (around cdata (bytes "x")) (bytes "<![CDATA[x]]>")
     ∷ []
+
+pub forms-hold : all (λ b. b) forms ≡ true
+unfolding computing forms
+forms-hold = refl
 
 -- a swap of bodies and one of lines, written out
 pub comment-swap : Swap crate (0 ∷ []) (bytes "a <!--x y--> b") (bytes "a <!--xyz=/--> b")
@@ -179,9 +189,9 @@ remark s = bytes "a " ++ (around comment s ++ bytes " b")
 pub any-remark : TwoRuns crate → (s : List ℕ) → all isPrivate s ≡ true → bulletinRefusal (remark s) (0 ∷ []) ≡ 0
     → shown crate (remark s) (0 ∷ []) ≡ bytes "a  b"
 unfolding computing
-any-remark runs s private taken =
+any-remark runs s private accepts =
     let swap : Swap crate (0 ∷ []) (remark []) (remark s) = in-line (record { before = bytes "a "; form = comment; body₁ = []; body₂ = s; after = bytes " b"; private₁ = refl; private₂ = private; one-is = refl; two-is = refl }) refl in
-    sym (runs (0 ∷ []) (remark []) (remark s) refl taken swap .same-bytes)
+    sym (runs (0 ∷ []) (remark []) (remark s) refl accepts swap .same-bytes)
 
 -- a swap by its parts, with what holds the private piece: 0 for an inline piece, or the kind of the block
 pub data Row : Type 0 where
@@ -207,14 +217,14 @@ consists test (body k b f x y a) = all test x && all test y
 consists test (whole k b x y a) = eqb (length x) (length y) && (all (all test) x && all (all test) y)
 
 -- a piece of bulletin one holds the private one
-abbrev pub holder : Row → Piece → Bool
-holder (body k b f x y a) = spans (length b) (length (b ++ around f x))
-holder (whole k b x y a) = encloses (length (b ++ (byte "\n" ∷ []))) (length ((b ++ (byte "\n" ∷ [])) ++ linesText x))
+abbrev pub enfolds : Row → Piece → Bool
+enfolds (body k b f x y a) = spans (length b) (length (b ++ around f x))
+enfolds (whole k b x y a) = encloses (length (b ++ (byte "\n" ∷ []))) (length ((b ++ (byte "\n" ∷ [])) ++ linesText x))
 
 abbrev pub withheld : Rules → Row → Bool
-withheld ρ r = any (holder r) (pieces ρ (one r) (flags r))
+withheld ρ r = any (enfolds r) (pieces ρ (one r) (flags r))
 
--- it is of the kind that the row says
+-- and is of the kind that the row says
 abbrev pub kind : Which → ℕ
 kind inline = 0
 kind (block k c) = k
@@ -224,11 +234,11 @@ said (body k b f x y a) = k
 said (whole k b x y a) = k
 
 abbrev pub asSaid : Rules → Row → Bool
-asSaid ρ r = any (λ p. holder r p && eqb (kind (p .which)) (said r)) (pieces ρ (one r) (flags r))
+asSaid ρ r = any (λ p. enfolds r p && eqb (kind (p .which)) (said r)) (pieces ρ (one r) (flags r))
 
 -- neither run is refused
-abbrev pub taken : Row → Bool
-taken r = eqb (bulletinRefusal (one r) (flags r)) 0 && eqb (bulletinRefusal (two r) (flags r)) 0
+abbrev pub accepted : Row → Bool
+accepted r = eqb (bulletinRefusal (one r) (flags r)) 0 && eqb (bulletinRefusal (two r) (flags r)) 0
 
 -- demand 3's premises
 abbrev pub meets : Rules → Row → Bool
@@ -262,36 +272,12 @@ swaps =
     ∷ whole 2 (bytes "<!--") [] [] (bytes "-->")
     ∷ []
 
--- ---- the facts
-pub readings-hold : all (λ b. b) readings ≡ true
-unfolding computing readings
-readings-hold = refl
-
-pub forms-hold : all (λ b. b) forms ≡ true
-unfolding computing forms
-forms-hold = refl
-
-pub each-applies : (c : Change) → appliesAlone c (place c) ≡ true
-unfolding computing
-each-applies F1 = refl
-each-applies F2 = refl
-each-applies F3 = refl
-each-applies F4 = refl
-each-applies F5 = refl
-each-applies F6 = refl
-each-applies T1 = refl
-each-applies T2 = refl
-
-pub none-there : all noneApplies calm ≡ true
-unfolding computing
-none-there = refl
-
 -- every row is a swap, in the reading of the Rust and in the standard one
 pub swaps-meet : (all (meets crate) swaps && all (meets standard) swaps) ≡ true
 unfolding computing swaps
 swaps-meet = refl
 
 -- neither run of a row is refused, and the piece is held as the row says
-pub swaps-taken : all (λ r. taken r && (asSaid crate r && asSaid standard r)) swaps ≡ true
+pub swaps-accepted : all (λ r. accepted r && (asSaid crate r && asSaid standard r)) swaps ≡ true
 unfolding computing swaps
-swaps-taken = refl
+swaps-accepted = refl
