@@ -5,3 +5,4 @@ pub mod Past
 pub mod Refusals
 pub mod Cut
 pub mod LineLaws
+pub mod Witness

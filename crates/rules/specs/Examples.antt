@@ -4,17 +4,11 @@ use Prim.Native.Nat.{ℕ}
 use mathlib.Core.Path.{_≡_, refl}
 use mathlib.Core.Bool.{Bool, true}
 use mathlib.Core.List.{List, [], _∷_}
-use Rattle.lexical.specs.Text.{bytes, run}
-use Rattle.lexical.specs.Line.{isBlank}
-use Rattle.lexical.specs.Name.{all, sameBytes, isMember, blockNames, rawNames, isBlockName, isRawName, cdataPrefix}
+use Rattle.lexical.specs.Text.{bytes}
+use Rattle.lexical.specs.Name.{all, sameBytes}
 use Rattle.rules.specs.Reading.{standard}
-use Rattle.rules.specs.Search.{somewhere, past, throughFirst}
-use Rattle.rules.specs.Tag.{tagEnd, values, attributes, openTag, closingTag}
-use Rattle.rules.specs.Inline.{comment, instruction, declaration, htmlTag, prefix, rawHtml, readInline}
-use Rattle.rules.specs.Lines.{cutLines, flagged, linesOf}
-use Rattle.rules.specs.Block as Block
-use Rattle.rules.specs.Block.{startsRaw, startsBasic, startsComplete, kindAt, kindOf, closes, extentOf, stopAfter}
-use Rattle.rules.specs.Withhold.{marks, goesOn, inlinePieces, linePieces, pieces, isWithheld, outside, shown}
+use Rattle.rules.specs.Withhold.{shown}
+use Rattle.rules.specs.Computing.{computing}
 
 abbrev pub leaves : List ℕ → List ℕ → List ℕ → Bool
 leaves text flags rest = sameBytes (shown standard text flags) rest
@@ -70,5 +64,5 @@ examples =
     []
 
 pub examples-hold : all (λ b. b) examples ≡ true
-unfolding examples run isBlank all sameBytes isMember blockNames rawNames isBlockName isRawName cdataPrefix somewhere past throughFirst tagEnd values attributes openTag closingTag comment instruction declaration htmlTag prefix rawHtml readInline cutLines flagged linesOf startsRaw startsBasic startsComplete kindAt kindOf closes Block.goesOn extentOf stopAfter marks goesOn inlinePieces linePieces pieces isWithheld outside shown
+unfolding computing examples
 examples-hold = refl

@@ -12,3 +12,7 @@ pub mod Rows
 pub mod Changes
 pub mod Examples
 pub mod Private
+pub mod Computing
+pub mod Corners
+pub mod Witness
+pub mod Counterexamples

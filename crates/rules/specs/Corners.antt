@@ -1,0 +1,105 @@
+-- Corners of 01 that its rows marked (P) leave out: each row refuses a definition that is a little wrong. Proved together by one computed fact.
+use Prim.Native.Nat.{ℕ, _+_}
+use mathlib.Core.Path.{_≡_, refl}
+use mathlib.Core.Bool.{Bool, true, false, _&&_}
+use mathlib.Core.List.{List, [], _∷_, _++_}
+use lib.Dec.{eqb}
+use lib.ListN.{length}
+use Rattle.lexical.specs.Text.{bytes, limit}
+use Rattle.lexical.specs.Name.{all, sameBytes}
+use Rattle.rules.specs.Reading.{crate}
+use Rattle.rules.specs.Refusal.{refusal, tooLong, inlineRefusal, blockRefusal, bulletinRefusal}
+use Rattle.rules.specs.Scan.{foundInline, noInline, refusedInline, inlineScan, BlockAnswer, foundBlock, noBlock, refusedBlock, blockScan}
+use Rattle.rules.specs.Withhold.{shown, Shown, shows, refusedShown, withhold, written}
+use Rattle.rules.specs.Rows.{sameInline, sameBlock, inlineRow, blockRow}
+use Rattle.rules.specs.Computing.{computing}
+
+-- a block that is found
+abbrev pub found : ℕ → ℕ → Bool → BlockAnswer
+found kind stop closed = foundBlock kind stop closed
+
+-- two answers of withholding are the same
+abbrev pub sameAnswer : Shown → Shown → Bool
+sameAnswer (shows l n) (shows m o) = eqb l m && eqb n o
+sameAnswer (shows l n) (refusedShown k) = false
+sameAnswer (refusedShown k) (shows m o) = false
+sameAnswer (refusedShown k) (refusedShown j) = eqb k j
+
+-- html_text.rs
+unfoldable pub texts : List Bool
+texts =
+    -- T1: `/` as the first byte of a value
+    inlineRow (bytes "<a b=/c>") 0 (foundInline 8 0)
+    -- F2 and F5 are not of inline tags
+    ∷ inlineRow (bytes "<a 1b>") 0 (noInline 0)
+    ∷ inlineRow (bytes "<a b=c=d>") 0 (noInline 0)
+    -- a closing tag's name begins with a letter
+    ∷ inlineRow (bytes "</1>") 0 (noInline 0)
+    -- a CDATA section ends at the first `]]>`
+    ∷ inlineRow (bytes "<![CDATA[]>") 0 (noInline 0)
+    ∷ inlineRow (bytes "<![CDATA[]]]>") 0 (foundInline 13 0)
+    -- T2: the end of the text leaves the letters counted so far; carry 5 has one to come
+    ∷ inlineRow (bytes "<![CD") 0 (noInline 2)
+    ∷ inlineRow (bytes "<![") 3 (noInline 3)
+    ∷ inlineRow (bytes "<![[q]]>") 5 (foundInline 8 0)
+    ∷ []
+
+-- html_flow.rs
+unfoldable pub blocks : List Bool
+blocks =
+    -- F1: behind another byte a run of `]` begins anew; an empty one does not close
+    blockRow (bytes "<![CDATA[]x]>") (0 ∷ []) (found 5 13 false)
+    ∷ blockRow (bytes "<![CDATA[>") (0 ∷ []) (found 5 10 false)
+    -- a raw end tag has its `>` right behind the name
+    ∷ blockRow (bytes "<pre>\n</pre x>") (0 ∷ 0 ∷ []) (found 1 14 false)
+    -- a lazy line ends every kind, also where it may interrupt
+    ∷ blockRow (bytes "<!--\nx") (0 ∷ 1 ∷ []) (found 2 4 false)
+    ∷ blockRow (bytes "<!--\nx") (0 ∷ 3 ∷ []) (found 2 4 false)
+    ∷ blockRow (bytes "<!--\nx") (0 ∷ 2 ∷ []) (found 2 6 false)
+    -- a tab ends a name
+    ∷ blockRow (bytes "<div\tx") (0 ∷ []) (found 6 6 false)
+    ∷ blockRow (bytes "<pre\tx") (0 ∷ []) (found 1 6 false)
+    -- kind 6 in a closing tag, and before `/>`
+    ∷ blockRow (bytes "</div>x") (0 ∷ []) (found 6 7 false)
+    ∷ blockRow (bytes "<div/>x") (0 ∷ []) (found 6 7 false)
+    -- a line's own flag
+    ∷ sameBlock (blockScan crate (bytes "a\n<a>") (2 ∷ 0 ∷ []) 2) (found 7 5 false)
+    ∷ []
+
+-- refusals: the first that applies, down the table
+unfoldable pub refusals : List Bool
+refusals =
+    sameInline (inlineScan crate (bytes "a\n\nb") 5 6) (refusedInline 4 6)
+    ∷ sameInline (inlineScan crate (bytes "a\n\nb") 4 6) (refusedInline 5 6)
+    ∷ sameInline (inlineScan crate (bytes "a\n\nb") 4 5) (refusedInline 6 5)
+    ∷ sameInline (inlineScan crate (bytes "a\n \t\nb") 0 0) (refusedInline 6 0)
+    ∷ sameBlock (blockScan crate (bytes "a") (4 ∷ 4 ∷ []) 1) (refusedBlock 2)
+    ∷ sameBlock (blockScan crate (bytes "a") (4 ∷ []) 1) (refusedBlock 3)
+    ∷ sameBlock (blockScan crate (bytes "a") (3 ∷ []) 1) (refusedBlock 4)
+    ∷ sameBlock (blockScan crate (bytes "a") (3 ∷ []) 0) noBlock
+    ∷ []
+
+-- withholding: a line behind a block begins a paragraph; 7 comes last; what is written
+unfoldable pub outputs : List Bool
+outputs =
+    sameBytes (shown crate (bytes "<!--\n-->\na<b>") (0 ∷ 0 ∷ 0 ∷ [])) (bytes "\na")
+    ∷ sameAnswer (withhold crate (bytes "a<b>c") (4 ∷ 4 ∷ []) 1) (refusedShown 2)
+    ∷ sameAnswer (withhold crate (bytes "a<b>c") (4 ∷ []) 1) (refusedShown 3)
+    ∷ sameAnswer (withhold crate (bytes "a<b>c") (3 ∷ []) 1) (refusedShown 7)
+    ∷ sameAnswer (withhold crate (bytes "a<b>c") (3 ∷ []) 2) (shows 2 1)
+    ∷ sameBytes (written 0 (bytes "ac") (bytes "xyz")) (bytes "acz")
+    ∷ sameBytes (written 7 (bytes "ac") (bytes "xyz")) (bytes "xyz")
+    ∷ []
+
+pub corners-hold : all (λ b. b) (texts ++ (blocks ++ (refusals ++ outputs))) ≡ true
+unfolding computing texts blocks refusals outputs
+corners-hold = refl
+
+-- 1 comes before all others, from the first byte over the limit on
+pub over-limit : (s flags : List ℕ) (i k : ℕ) → length s ≡ limit + 1 → inlineRefusal s i k ∷ blockRefusal s flags i ∷ bulletinRefusal s flags ∷ [] ≡ 1 ∷ 1 ∷ 1 ∷ []
+unfolding computing
+over-limit s flags i k e = rw e
+
+pub at-limit : (s : List ℕ) → length s ≡ limit → refusal (tooLong s ∷ []) ≡ 0
+unfolding computing
+at-limit s e = rw e
