@@ -113,7 +113,7 @@ fn same_lower(name: &[u8], part: &[u8]) -> bool
     true
 }
 
-// Whether the name, in lower case, is one of those that the offsets cut from the table.
+// Whether the name, in lower case, is one of those that the offsets cut from the table: the names of a whole list or of a part of it.
 fn is_member(name: &[u8], table: &[u8], offsets: &[usize]) -> bool
     requires { ⌜ rising (length (now table)) (now offsets) ≡ true ⌝ }
     ensures { λ r. ⌜ r ≡ isMember (map lower (now (name .entry))) (cut (now (table .entry)) (now (offsets .entry))) ⌝ }
