@@ -20,7 +20,7 @@ use Rattle.rules.specs.Lines.{Line, line}
 use Rattle.rules.specs.declared.Rules.{Rules}
 use Rattle.rules.proofs.Cut.{space-apart}
 use Rattle.flow.specs.CompleteMachine.{runOf}
-use Rattle.flow.specs.OpenMachine.{isNameBreak, selfClosingOf, completesOf, completeOf, tagNameOf, commentOpenOf, declarationOpenOf, tagCloseStartOf, openOf}
+use Rattle.flow.specs.OpenMachine.{selfClosingOf, completesOf, completeOf, tagNameOf, commentOpenOf, declarationOpenOf, tagCloseStartOf, openOf}
 use Rattle.flow.specs.declared.tokenizer.StateName.the-variants.{CompleteClosingTagAfter, CompleteAttributeValueQuotedAfter}
 use Rattle.flow.proofs.CompleteMeans.{open-is, close-is}
 use Rattle.flow.proofs.OpenMeans.{kind-is, not-opened, nothing-opened}
@@ -49,14 +49,6 @@ module _ (ρ : Rules) (f : ℕ) (a : List ℕ) where
 
 -- ---- behind a name
 module _ (line : List ℕ) (i : ℕ) where
-  pub break-out : length line ≤ i → isNameBreak (drop i line) ≡ true
-  break-out h = rw (suffix-out line i h)
-
-  pub break-in : i < length line
-      → isNameBreak (drop i line)
-      ≡ (isLineEndingByte (getD line i 0) || (isSpaceOrTab (getD line i 0) || (eqb (getD line i 0) (byte "/") || eqb (getD line i 0) (byte ">"))))
-  break-in h = rw (suffix-in line i h, and-yes (eqb (getD line i 0) (byte "/")), and-yes (eqb (getD line i 0) (byte ">")))
-
   pub self-out : length line ≤ i → selfClosingOf (drop i line) ≡ 0
   unfolding selfClosingOf
   self-out h = rw (suffix-out line i h)

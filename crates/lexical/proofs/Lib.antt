@@ -1,4 +1,5 @@
 pub mod Cases
+pub mod Classes
 pub mod Suffix
 pub mod Run
 pub mod Ending
