@@ -179,25 +179,3 @@ module _ (ρ : Rules) (f : ℕ) where
   no-kind s h =
       let l : Line = line f [] (take (lineLength s) s) in
       split (leb (indent ρ l) 3) (λ e. by-depth ρ l true e ∙ unmarked (drop (indent ρ l) (l .content)) (indent-first s h)) (λ e. by-depth ρ l false e)
-
--- ---- the CDATA prefix from a size on
-module _ (line : List ℕ) (at k : ℕ) where
-  abbrev pub prefixFrom : Bool
-  prefixFrom = begins (drop k cdataPrefix) (drop (at + k) line)
-
-  prefix-length : length cdataPrefix ≡ 6
-  unfolding cdataPrefix
-  prefix-length = refl
-
-  pub prefix-turn : k < 6 → at + k < length line → (t : Bool) → t ≡ eqb (getD line (at + k) 0) (first (drop k cdataPrefix))
-      → prefixFrom ≡ (t && begins (drop (k + 1) cdataPrefix) (drop (at + (k + 1)) line))
-  prefix-turn h l t e =
-      let m : k < length cdataPrefix = omega (arith, prefix-length) in
-      let n : at + k + 1 ≡ at + (k + 1) = omega arith in
-      rw (e, first-in cdataPrefix k m, suffix-in cdataPrefix k m, suffix-in line (at + k) l, n)
-
-  pub prefix-short : k < 6 → length line ≤ at + k → prefixFrom ≡ false
-  prefix-short h l = let m : k < length cdataPrefix = omega (arith, prefix-length) in rw (suffix-in cdataPrefix k m, suffix-out line (at + k) l)
-
-  pub prefix-end : 6 ≤ k → prefixFrom ≡ true
-  prefix-end h = rw (suffix-out cdataPrefix k (omega (arith, prefix-length)))

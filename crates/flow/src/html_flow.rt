@@ -46,9 +46,10 @@ use lexical::byte::is_value_end;
 use lexical::byte::is_value_excluded;
 use lexical::byte::is_whitespace;
 use lexical::byte::peek;
+use lexical::constant::HTML_CDATA_SIZE;
 use lexical::constant::HTML_RAW_SIZE_MAX;
+use lexical::constant::cdata_letters;
 use lexical::constant::is_block_name;
-use lexical::constant::is_cdata_prefix_byte;
 use lexical::constant::is_raw_name;
 use lexical::line::is_blank;
 use lexical::line::line_end;
@@ -631,21 +632,9 @@ fn tag_close_start(rules: Rules, line: &[u8], at: usize, flag: u8) -> Opening
 //     <![CDATA[>&<]]>
 //        ^^^^^^
 fn cdata_open_inside(line: &[u8], at: usize) -> bool
-    requires { ⌜ at ≤ length (now line) ⌝ }
     ensures { λ r. ⌜ r ≡ begins cdataPrefix (drop at (now (line .entry))) ⌝ }
 {
-    let mut size = 0;
-    while size < 6 {
-        let index = at + size;
-        if index >= line.len() {
-            return false;
-        }
-        if !is_cdata_prefix_byte(size, line[index]) {
-            return false;
-        }
-        size += 1;
-    }
-    true
+    cdata_letters(line, at, 0) == HTML_CDATA_SIZE
 }
 
 // After `<!-`: another `-`.

@@ -1,13 +1,12 @@
 -- The machine of html_text.rt: what each state does with a byte, and the run over what is left of a text. It need not be believed: no entry's contract
 -- cites it, only those of single steps and of the runs in crates/reader, and proofs/TextMeans.antt shows that the run gives what the rules say.
-use Prim.Native.Nat.{ℕ, _+_}
+use Prim.Native.Nat.{ℕ}
 use mathlib.Core.List.{List, [], _∷_}
-use lib.Dec.{eqb, leb}
-use lib.ListN.{drop}
-use Rattle.lexical.specs.Text.{byte, pick, first, run}
+use lib.Dec.{eqb}
+use Rattle.lexical.specs.Text.{byte, pick, run}
 use Rattle.lexical.specs.Line.{isInner}
 use Rattle.lexical.specs.Byte.{isLetter, isTagNameByte, isAttributeNameStart, isAttributeNameByte, isSpaceOrTab, isLineEndingByte, isQuote, isValueExcluded, isTagBreak, isValueEnd}
-use Rattle.lexical.specs.Name.{cdataPrefix}
+use Rattle.lexical.specs.Name.{cdataLetters}
 use Rattle.rules.specs.Inline.{Read, takes, lacks}
 use Rattle.rules.specs.declared.Rules.{Rules}
 use Rattle.html.specs.declared.tokenizer.StateName.{StateName}
@@ -42,12 +41,12 @@ commentCloseOf k b = pick (eqb b (byte "-")) (Next CommentEnd k) (commentOf k b)
 unfoldable pub commentEndOf : ℕ → ℕ → State
 commentEndOf k b = pick (eqb b (byte ">")) (endOf b) (pick (eqb b (byte "-")) (commentCloseOf k b) (commentOf k b))
 
--- after a byte of the prefix: the next one, or the body
-abbrev pub cdataCounted : ℕ → State
-cdataCounted n = pick (eqb n 6) (Next Cdata 0) (Next CdataOpenInside n)
+-- n letters of the prefix are counted, k of them before: no more, or all, or so many
+abbrev pub cdataCounted : ℕ → ℕ → State
+cdataCounted k n = pick (eqb n k) Nok (pick (eqb n 6) (Next Cdata 0) (Next CdataOpenInside n))
 
 unfoldable pub cdataOpenInsideOf : ℕ → ℕ → State
-cdataOpenInsideOf k b = pick (leb 6 k) Nok (pick (eqb b (first (drop k cdataPrefix))) (cdataCounted (k + 1)) Nok)
+cdataOpenInsideOf k b = cdataCounted k (cdataLetters k (b ∷ []))
 
 unfoldable pub cdataOf : ℕ → ℕ → State
 cdataOf k b = pick (eqb b (byte "]")) (Next CdataClose k) (Next Cdata k)

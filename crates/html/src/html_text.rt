@@ -30,7 +30,8 @@ use lexical::byte::is_tag_break;
 use lexical::byte::is_tag_name_byte;
 use lexical::byte::is_value_end;
 use lexical::byte::is_value_excluded;
-use lexical::constant::is_cdata_prefix_byte;
+use lexical::constant::HTML_CDATA_SIZE;
+use lexical::constant::cdata_letters;
 use rules::Rules;
 
 // Start of inline raw HTML.
@@ -153,17 +154,17 @@ pub(crate) fn comment_end(size: u8, b: u8) -> State
 pub(crate) fn cdata_open_inside(size: u8, b: u8) -> State
     ensures { λ r. ⌜ r ≡ cdataOpenInsideOf size b ⌝ }
 {
-    if size >= 6 {
+    let carry = size as usize;
+    let byte = [b];
+    let count = cdata_letters(&byte, 0, carry);
+    if count == carry {
         return State::Nok;
     }
-    if is_cdata_prefix_byte(size as usize, b) {
-        let count = size + 1;
-        if count == 6 {
-            return State::Next(StateName::Cdata, 0);
-        }
-        return State::Next(StateName::CdataOpenInside, count);
+    if count == HTML_CDATA_SIZE {
+        return State::Next(StateName::Cdata, 0);
     }
-    State::Nok
+    let letters = count as u8;
+    State::Next(StateName::CdataOpenInside, letters)
 }
 
 // In CDATA.

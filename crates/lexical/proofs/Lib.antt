@@ -11,3 +11,4 @@ pub mod Table
 pub mod Same
 pub mod Names
 pub mod RawNames
+pub mod Prefix
