@@ -9,15 +9,16 @@ use lib.Dec.{eqb}
 use lib.ListN.{drop, length}
 use borrow.Author.Tests.{eqb-true, not-false, not-true}
 use Rattle.lexical.specs.Text.{byte, bytes, pick, first, run}
-use Rattle.lexical.specs.Byte.{isLetter, isDigit, isTagNameByte, isAttributeNameByte, isSpaceOrTab, isLineEndingByte, isWhitespace, isQuote, isValueExcluded}
+use Rattle.lexical.specs.Byte.{isAttributeNameByte, isSpaceOrTab, isLineEndingByte, isWhitespace, isQuote, isValueExcluded, isTagBreak, isNameStart, isValueEnd}
 use Rattle.lexical.specs.Line.{isBlank}
-use Rattle.lexical.proofs.Cases.{split, clash, or-left, or-right, excluded}
+use Rattle.lexical.proofs.Cases.{split, or-left, or-right}
+use Rattle.lexical.proofs.Classes.{name-start-no, break-start-no, end-start-no}
 use Rattle.rules.specs.Search.{choose, begins, past, Left, nothing, exactly}
 use Rattle.rules.specs.Tag.{Grammar, blockTags, tagEnd, pastQuote, specification, isValueByte, value, values, attribute, attributes}
 use Rattle.rules.specs.Block.{fillsLine}
 use Rattle.rules.specs.declared.Rules.{Rules}
 use Rattle.rules.proofs.Past.{past-none, past-cases, past-length}
-use Rattle.flow.specs.CompleteMachine.{isTagBreak, isNameStart, isValueEnd, endOf, afterOf, closingTagAfterOf, nameBeforeOf, nameAfterOf, nameOf, valueQuotedOf, valueQuotedAfterOf, valueUnquotedOf, valueBeforeOf, stepOf, accepts, runOf}
+use Rattle.flow.specs.CompleteMachine.{endOf, afterOf, closingTagAfterOf, nameBeforeOf, nameAfterOf, nameOf, valueQuotedOf, valueQuotedAfterOf, valueUnquotedOf, valueBeforeOf, stepOf, accepts, runOf}
 use Rattle.flow.specs.declared.tokenizer.StateName.{StateName}
 use Rattle.flow.specs.declared.tokenizer.StateName.the-variants.{CompleteClosingTagAfter, CompleteAttributeNameBefore, CompleteAttributeName, CompleteAttributeNameAfter, CompleteAttributeValueBefore, CompleteAttributeValueQuoted, CompleteAttributeValueQuotedAfter, CompleteAttributeValueUnquoted, CompleteEnd, CompleteAfter}
 use Rattle.flow.specs.declared.tokenizer.State.{State}
@@ -26,29 +27,6 @@ use Rattle.flow.specs.declared.tokenizer.State.the-variants.{Next, Nok}
 module _ (ρ : Rules) where
   abbrev g : Grammar
   g = blockTags ρ
-
-  -- ---- classes
-  name-start-no : (x : ℕ) → isAttributeNameByte x ≡ false → isNameStart ρ x ≡ false
-  name-start-no x h =
-      let a = or-left (isTagNameByte x) (eqb x (byte "_") || (eqb x (byte ".") || eqb x (byte ":"))) h in
-      let b = or-right (isTagNameByte x) (eqb x (byte "_") || (eqb x (byte ".") || eqb x (byte ":"))) h in
-      let d = or-right (eqb x (byte "-")) (isDigit x || isLetter x) a in
-      let m = or-right (eqb x (byte ".")) (eqb x (byte ":")) (or-right (eqb x (byte "_")) (eqb x (byte ".") || eqb x (byte ":")) b) in
-      simp (or-left (isDigit x) (isLetter x) d, or-right (isDigit x) (isLetter x) d, or-left (eqb x (byte "_")) (eqb x (byte ".") || eqb x (byte ":")) b, m)
-
-  -- a byte that begins a name is in none of these classes
-  starts-not : (f : ℕ → Bool) (x : ℕ) → f x ≡ true → (isNameStart ρ x ≡ true → f x ≡ false) → isNameStart ρ x ≡ false
-  starts-not f x h n = split (isNameStart ρ x) (λ s. clash (f x) h (n s)) (λ s. s)
-
-  break-start-no : (x : ℕ) → isTagBreak x ≡ true → isNameStart ρ x ≡ false
-  break-start-no x h =
-      starts-not isTagBreak x h
-      (λ s. simp (excluded (isNameStart ρ) (byte " ") x refl s, excluded (isNameStart ρ) (byte "\t") x refl s, excluded (isNameStart ρ) (byte "\n") x refl s, excluded (isNameStart ρ) (byte "\r") x refl s, excluded (isNameStart ρ) (byte "/") x refl s, excluded (isNameStart ρ) (byte ">") x refl s))
-
-  end-start-no : (x : ℕ) → isValueEnd ρ x ≡ true → isNameStart ρ x ≡ false
-  end-start-no x h =
-      starts-not (isValueEnd ρ) x h
-      (λ s. simp (excluded (isNameStart ρ) (byte " ") x refl s, excluded (isNameStart ρ) (byte "\t") x refl s, excluded (isNameStart ρ) (byte "\n") x refl s, excluded (isNameStart ρ) (byte "\r") x refl s, excluded (isNameStart ρ) (byte "\"") x refl s, excluded (isNameStart ρ) (byte "'") x refl s, excluded (isNameStart ρ) (byte "=") x refl s, excluded (isNameStart ρ) (byte "<") x refl s, excluded (isNameStart ρ) (byte ">") x refl s, excluded (isNameStart ρ) (byte "`") x refl s, excluded (isNameStart ρ) (byte "/") x refl s))
 
   -- ---- a state that stays at each byte of a class, and at any other does what st′ does
   module _ (f : ℕ → Bool) (st st′ : StateName) (end : accepts st ≡ accepts st′) (on : (x : ℕ) → f x ≡ true → stepOf ρ st x ≡ Next st)
@@ -81,12 +59,12 @@ module _ (ρ : Rules) where
 
   unquoted-on : (x : ℕ) → isValueByte g x ≡ true → valueUnquotedOf ρ x ≡ Next CompleteAttributeValueUnquoted
   unfolding valueUnquotedOf
-  unquoted-on x h = rw (not-true (isValueEnd ρ x) h)
+  unquoted-on x h = rw (not-true (isValueEnd (ρ .f4) x) h)
 
   -- F5: an unquoted value ends as a name does, else as a quoted value does
   unquoted-off : (x : ℕ) (b : Bool) → ρ .f5 ≡ b → isValueByte g x ≡ false → valueUnquotedOf ρ x ≡ pick b (nameAfterOf ρ x) (valueQuotedAfterOf ρ x)
   unfolding valueUnquotedOf
-  unquoted-off x b f h = rw (not-false (isValueEnd ρ x) h) (ap (λ t. pick t (nameAfterOf ρ x) (valueQuotedAfterOf ρ x)) f)
+  unquoted-off x b f h = rw (not-false (isValueEnd (ρ .f4) x) h) (ap (λ t. pick t (nameAfterOf ρ x) (valueQuotedAfterOf ρ x)) f)
 
   further-span : ρ .f5 ≡ true → (s : List ℕ) → runOf ρ CompleteAttributeValueUnquoted s ≡ runOf ρ CompleteAttributeNameAfter (past (isValueByte g) s)
   further-span f s = span (isValueByte g) CompleteAttributeValueUnquoted CompleteAttributeNameAfter refl unquoted-on (λ x h. unquoted-off x true f h) s
@@ -110,9 +88,9 @@ module _ (ρ : Rules) where
   slash-is s = end-is s
 
   -- ---- what a state does at a byte that is no whitespace
-  before-at : (x : ℕ) → isWhitespace x ≡ false → nameBeforeOf ρ x ≡ pick (eqb x (byte "/")) (Next CompleteEnd) (pick (isNameStart ρ x) (Next CompleteAttributeName) (endOf x))
+  before-at : (x : ℕ) → isWhitespace x ≡ false → nameBeforeOf ρ x ≡ pick (eqb x (byte "/")) (Next CompleteEnd) (pick (isNameStart (ρ .f2) x) (Next CompleteAttributeName) (endOf x))
   unfolding nameBeforeOf
-  before-at x h = ap (λ t. pick t (Next CompleteAttributeNameBefore) (pick (eqb x (byte "/")) (Next CompleteEnd) (pick (isNameStart ρ x) (Next CompleteAttributeName) (endOf x)))) h
+  before-at x h = ap (λ t. pick t (Next CompleteAttributeNameBefore) (pick (eqb x (byte "/")) (Next CompleteEnd) (pick (isNameStart (ρ .f2) x) (Next CompleteAttributeName) (endOf x)))) h
 
   name-after-at : (x : ℕ) → isWhitespace x ≡ false → nameAfterOf ρ x ≡ pick (eqb x (byte "=")) (Next CompleteAttributeValueBefore) (nameBeforeOf ρ x)
   unfolding nameAfterOf
@@ -130,7 +108,7 @@ module _ (ρ : Rules) where
   unfolding runOf
   run-alike st st′ x xs e = rw e
 
-  after-at : (x : ℕ) → isNameStart ρ x ≡ false → valueQuotedAfterOf ρ x ≡ nameBeforeOf ρ x
+  after-at : (x : ℕ) → isNameStart (ρ .f2) x ≡ false → valueQuotedAfterOf ρ x ≡ nameBeforeOf ρ x
   unfolding valueQuotedAfterOf endOf
   after-at x start =
       split (isTagBreak x) (λ t. rw t)
@@ -138,7 +116,7 @@ module _ (ρ : Rules) where
       let o = or-right (isWhitespace x) (eqb x (byte "/") || eqb x (byte ">")) t in
       rw (t, before-at x (or-left (isWhitespace x) (eqb x (byte "/") || eqb x (byte ">")) t), or-left (eqb x (byte "/")) (eqb x (byte ">")) o, start, or-right (eqb x (byte "/")) (eqb x (byte ">")) o))
 
-  after-between : (x : ℕ) (xs : List ℕ) → isNameStart ρ x ≡ false
+  after-between : (x : ℕ) (xs : List ℕ) → isNameStart (ρ .f2) x ≡ false
       → runOf ρ CompleteAttributeValueQuotedAfter (x ∷ xs) ≡ runOf ρ CompleteAttributeNameBefore (past isWhitespace (x ∷ xs))
   after-between x xs start = run-alike CompleteAttributeValueQuotedAfter CompleteAttributeNameBefore x xs (after-at x start) ∙ before-span (x ∷ xs)
 
@@ -161,7 +139,7 @@ module _ (ρ : Rules) where
     ends again l = ih [] l
 
     -- behind a name, or with F5 behind an unquoted value: it ends at x, which begins no attribute
-    specification-is : (again : List ℕ → Left) (x : ℕ) (xs : List ℕ) → isNameStart ρ x ≡ false → length (x ∷ xs) < n
+    specification-is : (again : List ℕ → Left) (x : ℕ) (xs : List ℕ) → isNameStart (ρ .f2) x ≡ false → length (x ∷ xs) < n
         → ((s : List ℕ) → length s < length (x ∷ xs) → runOf ρ CompleteAttributeValueBefore s ≡ fillsLine (again (past isWhitespace s)))
         → runOf ρ CompleteAttributeNameAfter (x ∷ xs) ≡ fillsLine (specification (attributes g n) again (x ∷ xs))
     unfolding runOf
@@ -185,7 +163,7 @@ module _ (ρ : Rules) where
         split (ρ .f5)
         (λ f. further-span f s
         ∙ past-cases (λ t. runOf ρ CompleteAttributeNameAfter t ≡ fillsLine (specification (attributes g n) again t)) (isValueByte g) s (ends again (omega arith))
-        (λ y ys e le. specification-is again y ys (end-start-no y (not-false (isValueEnd ρ y) e)) (omega arith) (λ t m. are t (omega arith)))
+        (λ y ys e le. specification-is again y ys (end-start-no (ρ .f2) (ρ .f4) y (not-false (isValueEnd (ρ .f4) y) e)) (omega arith) (λ t m. are t (omega arith)))
         ∙ ap (λ b. fillsLine (choose b (λ _. specification (attributes g n) again (past (isValueByte g) s)) (λ _. attributes g n (past (isValueByte g) s)))) (sym f))
         (λ f. single-span f s
         ∙ ih (past (isValueByte g) s) (omega (arith, past-length (isValueByte g) s))
@@ -227,17 +205,17 @@ module _ (ρ : Rules) where
     name-is s l =
         name-span s
         ∙ past-cases (λ r. runOf ρ CompleteAttributeNameAfter r ≡ fillsLine (specification (attributes g n) (values g (attributes g n) (length s)) r)) isAttributeNameByte s (ends (values g (attributes g n) (length s)) (omega arith))
-        (λ x xs h le. specification-is (values g (attributes g n) (length s)) x xs (name-start-no x h) (omega arith) (λ t m. value-is (length s) t (omega arith) (omega arith)))
+        (λ x xs h le. specification-is (values g (attributes g n) (length s)) x xs (name-start-no (ρ .f2) x h) (omega arith) (λ t m. value-is (length s) t (omega arith) (omega arith)))
 
     between-is : (s : List ℕ) → length s < suc n
         → runOf ρ CompleteAttributeNameBefore s
-        ≡ fillsLine (choose (isNameStart ρ (first (past isWhitespace s))) (λ _. attribute g (attributes g n) (drop 1 (past isWhitespace s))) (λ _. tagEnd (past isWhitespace s)))
+        ≡ fillsLine (choose (isNameStart (ρ .f2) (first (past isWhitespace s))) (λ _. attribute g (attributes g n) (drop 1 (past isWhitespace s))) (λ _. tagEnd (past isWhitespace s)))
     unfolding runOf endOf tagEnd
     between-is s l =
         before-span s
-        ∙ past-cases (λ t. runOf ρ CompleteAttributeNameBefore t ≡ fillsLine (choose (isNameStart ρ (first t)) (λ _. attribute g (attributes g n) (drop 1 t)) (λ _. tagEnd t))) isWhitespace s refl
+        ∙ past-cases (λ t. runOf ρ CompleteAttributeNameBefore t ≡ fillsLine (choose (isNameStart (ρ .f2) (first t)) (λ _. attribute g (attributes g n) (drop 1 t)) (λ _. tagEnd t))) isWhitespace s refl
         (λ x xs sp le. split (eqb x (byte "/")) (λ e. rw (eqb-true x (byte "/") e) (slash-is xs))
-        (λ e. split (isNameStart ρ x) (λ a. rw (before-at x sp, e, a) (name-is xs (omega arith)))
+        (λ e. split (isNameStart (ρ .f2) x) (λ a. rw (before-at x sp, e, a) (name-is xs (omega arith)))
         (λ a. split (eqb x (byte ">")) (λ j. rw (before-at x sp, e, a, j) (blank-is xs)) (λ j. rw (before-at x sp, e, a, j)))))
 
   -- ---- behind a tag name or an attribute
@@ -250,7 +228,7 @@ module _ (ρ : Rules) where
   after-nil n = refl
 
   attributes-spaced : (n x : ℕ) (xs : List ℕ) → isWhitespace x ≡ true
-      → attributes g (suc n) (x ∷ xs) ≡ choose (isNameStart ρ (first (past isWhitespace (x ∷ xs)))) (λ _. attribute g (attributes g n) (drop 1 (past isWhitespace (x ∷ xs)))) (λ _. tagEnd (past isWhitespace (x ∷ xs)))
+      → attributes g (suc n) (x ∷ xs) ≡ choose (isNameStart (ρ .f2) (first (past isWhitespace (x ∷ xs)))) (λ _. attribute g (attributes g n) (drop 1 (past isWhitespace (x ∷ xs)))) (λ _. tagEnd (past isWhitespace (x ∷ xs)))
   unfolding attributes
   attributes-spaced n x xs sp = rw sp
 
@@ -272,7 +250,7 @@ module _ (ρ : Rules) where
       (λ t.
       let b = run-alike CompleteAttributeValueQuotedAfter CompleteAttributeNameBefore x xs (at-break x t) ∙ between-is n (after-is n) (x ∷ xs) l in
       split (isWhitespace x) (λ sp. b ∙ ap fillsLine (sym (attributes-spaced n x xs sp)))
-      (λ sp. rw (attributes-end n x xs sp) (rw (past-none isWhitespace x xs sp, break-start-no x t) at b)))
+      (λ sp. rw (attributes-end n x xs sp) (rw (past-none isWhitespace x xs sp, break-start-no (ρ .f2) x t) at b)))
       (λ t. rw (attributes-end n x xs (or-left (isWhitespace x) (eqb x (byte "/") || eqb x (byte ">")) t)) (no-break x xs t))
 
   -- behind an open tag's name, and behind a closing tag's

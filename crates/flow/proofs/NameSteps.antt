@@ -8,12 +8,12 @@ use lib.Dec.{eqb}
 use lib.ListN.{take, drop}
 use lib.Seq.{drop-drop}
 use Rattle.lexical.specs.Text.{byte, bytes, first, run}
-use Rattle.lexical.specs.Byte.{isTagNameByte}
+use Rattle.lexical.specs.Byte.{isTagNameByte, isNameBreak}
 use Rattle.lexical.specs.Name.{isBlockName, isRawName}
 use Rattle.rules.specs.Search.{choose, begins}
 use Rattle.rules.specs.Block.{nameOf, afterName}
 use Rattle.rules.specs.declared.Rules.{Rules}
-use Rattle.flow.specs.OpenMachine.{isNameBreak, selfClosingOf, completeOf, tagNameOf}
+use Rattle.flow.specs.OpenMachine.{selfClosingOf, completeOf, tagNameOf}
 use Rattle.flow.proofs.OpenSteps.{one-first}
 
 module _ (line : List ℕ) (at end : ℕ) (ends : end ≡ at + run isTagNameByte (drop at line)) where

@@ -9,8 +9,7 @@ use lib.Dec.{eqb}
 use lib.ListN.{length, drop, length-drop}
 use borrow.Author.Tests.{eqb-true}
 use Rattle.lexical.specs.Text.{byte, bytes, pick, first, run}
-use Rattle.lexical.specs.Byte.{isLetter, isTagNameByte, isSpaceOrTab, isLineEndingByte, isWhitespace}
-use Rattle.lexical.specs.Line.{atLineEnd}
+use Rattle.lexical.specs.Byte.{isLetter, isTagNameByte, isSpaceOrTab, isLineEndingByte, isWhitespace, isNameBreak}
 use Rattle.lexical.specs.Name.{isBlockName, isRawName}
 use Rattle.lexical.proofs.Cases.{split, clash, and-left, or-left, or-right, excluded, and-yes, and-no, or-no, letter-byte}
 use Rattle.lexical.proofs.RawNames.{raw-first, block-first}
@@ -19,9 +18,9 @@ use Rattle.rules.specs.Tag.{blockTags, attributes, openTag, closingTag}
 use Rattle.rules.specs.Block.{nameOf, afterName, nameEnds, startsRaw, basicName, startsBasic, fillsLine, startsComplete, mayStart, kindAt}
 use Rattle.rules.specs.declared.Rules.{Rules}
 use Rattle.rules.proofs.Past.{past-run, past-none}
-use Rattle.flow.specs.CompleteMachine.{isTagBreak, endOf, nameBeforeOf, valueQuotedAfterOf, runOf}
+use Rattle.flow.specs.CompleteMachine.{endOf, nameBeforeOf, valueQuotedAfterOf, runOf}
 use Rattle.flow.proofs.CompleteMeans.{open-is}
-use Rattle.flow.specs.OpenMachine.{isNameBreak, selfClosingOf, completesOf, completeOf, tagNameOf, declarationOpenOf, tagCloseStartOf, openOf}
+use Rattle.flow.specs.OpenMachine.{selfClosingOf, completesOf, completeOf, tagNameOf, declarationOpenOf, tagCloseStartOf, openOf}
 
 -- ---- names that begin with no letter
 first-of-name : (s : List ℕ) → isLetter (first (nameOf s)) ≡ true → isLetter (first s) ≡ true
@@ -102,14 +101,17 @@ module _ (E S G R B C M : Bool) (no-both : S ≡ true → E ≡ false) (shut : (
 
 -- ---- what follows a name
 break-is : (a : List ℕ) → isNameBreak a ≡ (nameEnds a || begins (bytes "/") a)
-break-is a = turned (atLineEnd a) (isSpaceOrTab (first a)) (begins (bytes "/") a) (begins (bytes ">") a)
+break-is [] = refl
+break-is (y ∷ ys) = turned (isLineEndingByte y) (isSpaceOrTab y) (eqb y (byte "/")) (eqb y (byte ">"))
   where
-    turned : (x y s g : Bool) → (x || (y || (s || g))) ≡ ((x || (y || g)) || s)
-    turned true y s g = refl
+    turned : (x y s g : Bool) → ((y || x) || (s || g)) ≡ ((x || (y || (g && true))) || (s && true))
+    turned true true s g = refl
+    turned true false s g = refl
     turned false true s g = refl
     turned false false true true = refl
     turned false false true false = refl
-    turned false false false g = sym (or-no g)
+    turned false false false true = refl
+    turned false false false false = refl
 
 slash-first : (y : ℕ) (ys : List ℕ) → begins (bytes "/") (y ∷ ys) ≡ true → y ≡ byte "/"
 slash-first y ys h = eqb-true y (byte "/") (and-left (eqb y (byte "/")) true h)
@@ -122,16 +124,6 @@ slash-of-here : (a : List ℕ) → begins (bytes "/>") a ≡ true → begins (by
 slash-of-here [] h = h
 slash-of-here (y ∷ ys) h = rw (and-left (eqb y (byte "/")) (begins (bytes ">") ys) h)
 
--- a byte that ends no name ends no tag either
-not-break : (y : ℕ) (ys : List ℕ) → isNameBreak (y ∷ ys) ≡ false → isTagBreak y ≡ false
-not-break y ys h =
-    let a = or-left (isLineEndingByte y) _ h in
-    let b = or-right (isLineEndingByte y) _ h in
-    let c = or-right (isSpaceOrTab y) _ b in
-    let slash = rw (and-yes (eqb y (byte "/"))) at (or-left (begins (bytes "/") (y ∷ ys)) _ c) in
-    let mark = rw (and-yes (eqb y (byte ">"))) at (or-right (begins (bytes "/") (y ∷ ys)) _ c) in
-    simp (or-left (isSpaceOrTab y) _ b, a, slash, mark)
-
 module _ (ρ : Rules) where
   abbrev fills : ℕ → List ℕ → Bool
   fills n a = fillsLine (attributes (blockTags ρ) n a)
@@ -143,7 +135,7 @@ module _ (ρ : Rules) where
   open-shut : (n : ℕ) (a : List ℕ) → length a < n → isNameBreak a ≡ false → fills n a ≡ false
   unfolding runOf valueQuotedAfterOf
   open-shut n [] l h = clash true refl h
-  open-shut n (y ∷ ys) l h = sym (open-is ρ n (y ∷ ys) l) ∙ rw (not-break y ys h)
+  open-shut n (y ∷ ys) l h = sym (open-is ρ n (y ∷ ys) l) ∙ rw h
 
   open-need : (n : ℕ) (a : List ℕ) → length a < n → begins (bytes "/") a ≡ true → begins (bytes "/>") a ≡ false → fills n a ≡ false
   unfolding runOf valueQuotedAfterOf nameBeforeOf endOf
@@ -207,9 +199,8 @@ module _ (ρ : Rules) where
   close-shut : (a : List ℕ) → isNameBreak a ≡ false → fillsLine (exactly (bytes ">") (past isWhitespace a)) ≡ false
   close-shut [] h = clash true refl h
   close-shut (y ∷ ys) h =
-      let t = not-break y ys h in
-      let o = or-right (isWhitespace y) (eqb y (byte "/") || eqb y (byte ">")) t in
-      rw (past-none isWhitespace y ys (or-left (isWhitespace y) (eqb y (byte "/") || eqb y (byte ">")) t), or-right (eqb y (byte "/")) (eqb y (byte ">")) o)
+      let o = or-right (isWhitespace y) (eqb y (byte "/") || eqb y (byte ">")) h in
+      rw (past-none isWhitespace y ys (or-left (isWhitespace y) (eqb y (byte "/") || eqb y (byte ">")) h), or-right (eqb y (byte "/")) (eqb y (byte ">")) o)
 
   close-need : (a : List ℕ) → begins (bytes "/") a ≡ true → fillsLine (exactly (bytes ">") (past isWhitespace a)) ≡ false
   close-need [] h = clash false h refl

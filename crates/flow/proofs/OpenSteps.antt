@@ -20,7 +20,7 @@ use Rattle.rules.specs.Lines.{Line, line}
 use Rattle.rules.specs.declared.Rules.{Rules}
 use Rattle.rules.proofs.Cut.{space-apart}
 use Rattle.flow.specs.CompleteMachine.{runOf}
-use Rattle.flow.specs.OpenMachine.{isNameBreak, selfClosingOf, completesOf, completeOf, tagNameOf, commentOpenOf, declarationOpenOf, tagCloseStartOf, openOf}
+use Rattle.flow.specs.OpenMachine.{selfClosingOf, completesOf, completeOf, tagNameOf, commentOpenOf, declarationOpenOf, tagCloseStartOf, openOf}
 use Rattle.flow.specs.declared.tokenizer.StateName.the-variants.{CompleteClosingTagAfter, CompleteAttributeValueQuotedAfter}
 use Rattle.flow.proofs.CompleteMeans.{open-is, close-is}
 use Rattle.flow.proofs.OpenMeans.{kind-is, not-opened, nothing-opened}
@@ -49,14 +49,6 @@ module _ (ρ : Rules) (f : ℕ) (a : List ℕ) where
 
 -- ---- behind a name
 module _ (line : List ℕ) (i : ℕ) where
-  pub break-out : length line ≤ i → isNameBreak (drop i line) ≡ true
-  break-out h = rw (suffix-out line i h)
-
-  pub break-in : i < length line
-      → isNameBreak (drop i line)
-      ≡ (isLineEndingByte (getD line i 0) || (isSpaceOrTab (getD line i 0) || (eqb (getD line i 0) (byte "/") || eqb (getD line i 0) (byte ">"))))
-  break-in h = rw (suffix-in line i h, and-yes (eqb (getD line i 0) (byte "/")), and-yes (eqb (getD line i 0) (byte ">")))
-
   pub self-out : length line ≤ i → selfClosingOf (drop i line) ≡ 0
   unfolding selfClosingOf
   self-out h = rw (suffix-out line i h)
@@ -187,25 +179,3 @@ module _ (ρ : Rules) (f : ℕ) where
   no-kind s h =
       let l : Line = line f [] (take (lineLength s) s) in
       split (leb (indent ρ l) 3) (λ e. by-depth ρ l true e ∙ unmarked (drop (indent ρ l) (l .content)) (indent-first s h)) (λ e. by-depth ρ l false e)
-
--- ---- the CDATA prefix from a size on
-module _ (line : List ℕ) (at k : ℕ) where
-  abbrev pub prefixFrom : Bool
-  prefixFrom = begins (drop k cdataPrefix) (drop (at + k) line)
-
-  prefix-length : length cdataPrefix ≡ 6
-  unfolding cdataPrefix
-  prefix-length = refl
-
-  pub prefix-turn : k < 6 → at + k < length line → (t : Bool) → t ≡ eqb (getD line (at + k) 0) (first (drop k cdataPrefix))
-      → prefixFrom ≡ (t && begins (drop (k + 1) cdataPrefix) (drop (at + (k + 1)) line))
-  prefix-turn h l t e =
-      let m : k < length cdataPrefix = omega (arith, prefix-length) in
-      let n : at + k + 1 ≡ at + (k + 1) = omega arith in
-      rw (e, first-in cdataPrefix k m, suffix-in cdataPrefix k m, suffix-in line (at + k) l, n)
-
-  pub prefix-short : k < 6 → length line ≤ at + k → prefixFrom ≡ false
-  prefix-short h l = let m : k < length cdataPrefix = omega (arith, prefix-length) in rw (suffix-in cdataPrefix k m, suffix-out line (at + k) l)
-
-  pub prefix-end : 6 ≤ k → prefixFrom ≡ true
-  prefix-end h = rw (suffix-out cdataPrefix k (omega (arith, prefix-length)))

@@ -1,28 +1,16 @@
 -- The machine of the complete states of html_flow.rt: what each does with a byte, and the run over what is left of a line. It need not be believed: no public
 -- contract cites it, and proofs/CompleteMeans.antt shows that the run says what the rules say.
 use Prim.Native.Nat.{ℕ}
-use mathlib.Core.Bool.{Bool, true, false, _&&_, _||_}
+use mathlib.Core.Bool.{Bool, true, false}
 use mathlib.Core.List.{List, [], _∷_}
 use lib.Dec.{eqb}
 use Rattle.lexical.specs.Text.{byte, pick}
-use Rattle.lexical.specs.Byte.{isDigit, isAttributeNameStart, isAttributeNameByte, isSpaceOrTab, isLineEndingByte, isWhitespace, isQuote, isValueExcluded}
+use Rattle.lexical.specs.Byte.{isAttributeNameByte, isSpaceOrTab, isLineEndingByte, isWhitespace, isQuote, isValueExcluded, isTagBreak, isNameStart, isValueEnd}
 use Rattle.rules.specs.declared.Rules.{Rules}
 use Rattle.flow.specs.declared.tokenizer.StateName.{StateName}
 use Rattle.flow.specs.declared.tokenizer.StateName.the-variants.{CompleteClosingTagAfter, CompleteAttributeNameBefore, CompleteAttributeName, CompleteAttributeNameAfter, CompleteAttributeValueBefore, CompleteAttributeValueQuoted, CompleteAttributeValueQuotedAfter, CompleteAttributeValueUnquoted, CompleteEnd, CompleteAfter}
 use Rattle.flow.specs.declared.tokenizer.State.{State}
 use Rattle.flow.specs.declared.tokenizer.State.the-variants.{Next, Ok, Nok}
-
--- what may follow a quoted value
-abbrev pub isTagBreak : ℕ → Bool
-isTagBreak b = isWhitespace b || (eqb b (byte "/") || eqb b (byte ">"))
-
--- the first byte of an attribute name; F2: also a digit
-abbrev pub isNameStart : Rules → ℕ → Bool
-isNameStart ρ b = isAttributeNameStart b || (isDigit b && ρ .f2)
-
--- what ends an unquoted value; F4: `/` does
-abbrev pub isValueEnd : Rules → ℕ → Bool
-isValueEnd ρ b = isValueExcluded b || (eqb b (byte "/") && ρ .f4)
 
 unfoldable pub endOf : ℕ → State
 endOf b = pick (eqb b (byte ">")) (Next CompleteAfter) Nok
@@ -36,7 +24,7 @@ closingTagAfterOf b = pick (isWhitespace b) (Next CompleteClosingTagAfter) (endO
 unfoldable pub nameBeforeOf : Rules → ℕ → State
 nameBeforeOf ρ b =
     pick (isWhitespace b) (Next CompleteAttributeNameBefore)
-    (pick (eqb b (byte "/")) (Next CompleteEnd) (pick (isNameStart ρ b) (Next CompleteAttributeName) (endOf b)))
+    (pick (eqb b (byte "/")) (Next CompleteEnd) (pick (isNameStart (ρ .f2) b) (Next CompleteAttributeName) (endOf b)))
 
 unfoldable pub nameAfterOf : Rules → ℕ → State
 nameAfterOf ρ b =
@@ -53,7 +41,7 @@ valueQuotedAfterOf ρ b = pick (isTagBreak b) (nameBeforeOf ρ b) Nok
 
 -- F5: a further value may follow, as behind a name
 unfoldable pub valueUnquotedOf : Rules → ℕ → State
-valueUnquotedOf ρ b = pick (isValueEnd ρ b) (pick (ρ .f5) (nameAfterOf ρ b) (valueQuotedAfterOf ρ b)) (Next CompleteAttributeValueUnquoted)
+valueUnquotedOf ρ b = pick (isValueEnd (ρ .f4) b) (pick (ρ .f5) (nameAfterOf ρ b) (valueQuotedAfterOf ρ b)) (Next CompleteAttributeValueUnquoted)
 
 unfoldable pub valueBeforeOf : Rules → ℕ → State
 valueBeforeOf ρ b =

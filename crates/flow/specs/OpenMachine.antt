@@ -5,17 +5,12 @@ use mathlib.Core.Bool.{Bool, true, false, _&&_, _||_, not}
 use mathlib.Core.List.{List}
 use lib.ListN.{drop, length}
 use Rattle.lexical.specs.Text.{bytes, first}
-use Rattle.lexical.specs.Byte.{isLetter, isSpaceOrTab, isWhitespace}
-use Rattle.lexical.specs.Line.{atLineEnd}
+use Rattle.lexical.specs.Byte.{isLetter, isWhitespace, isNameBreak}
 use Rattle.lexical.specs.Name.{isBlockName, isRawName}
 use Rattle.rules.specs.Search.{choose, begins, past, exactly}
 use Rattle.rules.specs.Tag.{blockTags, attributes}
 use Rattle.rules.specs.Block.{nameOf, afterName, fillsLine, mayStart}
 use Rattle.rules.specs.declared.Rules.{Rules}
-
--- what may follow a tag name
-abbrev pub isNameBreak : List ℕ → Bool
-isNameBreak a = atLineEnd a || (isSpaceOrTab (first a) || (begins (bytes "/") a || begins (bytes ">") a))
 
 -- a block name, then `/`: only before `>`
 unfoldable pub selfClosingOf : List ℕ → ℕ

@@ -2,7 +2,7 @@
 //
 // F1 lives in the states inside CDATA, F2, F4 and F5 in the complete states, F3 in `complete`, F6 in `may_start`. A `Retry` of the Rust is a call.
 ghost use mathlib.Core.Path.{_≡_};
-ghost use Rattle.flow.specs.CompleteMachine.{isTagBreak, isNameStart, isValueEnd, endOf, afterOf, closingTagAfterOf, nameBeforeOf, nameAfterOf, nameOf, valueQuotedOf, valueQuotedAfterOf, valueUnquotedOf, valueBeforeOf};
+ghost use Rattle.flow.specs.CompleteMachine.{endOf, afterOf, closingTagAfterOf, nameBeforeOf, nameAfterOf, nameOf, valueQuotedOf, valueQuotedAfterOf, valueUnquotedOf, valueBeforeOf};
 ghost use Prim.Native.Nat.{_-_, _<_, _≤_};
 ghost use lib.ListN.{length, drop};
 ghost use Rattle.rules.specs.Search.{somewhere};
@@ -24,7 +24,7 @@ ghost use Rattle.rules.specs.Scan.{found, foundBlock};
 ghost use Rattle.rules.proofs.Cut.{lineFrom};
 ghost use Rattle.flow.specs.BlockMachine.{blankLineBefore, continuationStartOf};
 ghost use Rattle.rules.proofs.LineLaws.{contentFrom};
-ghost use Rattle.flow.specs.OpenMachine.{isNameBreak, selfClosingOf, completeOf, tagNameOf, tagCloseStartOf, commentOpenOf, declarationOpenOf, openOf};
+ghost use Rattle.flow.specs.OpenMachine.{selfClosingOf, completeOf, tagNameOf, tagCloseStartOf, commentOpenOf, declarationOpenOf, openOf};
 use crate::partial_non_lazy_continuation::flag_at;
 use crate::partial_non_lazy_continuation::is_lazy;
 use crate::partial_non_lazy_continuation::next_number;
@@ -37,15 +37,20 @@ use crate::tokenizer::run as run_complete;
 use lexical::byte::is_attribute_name_byte;
 use lexical::byte::is_letter;
 use lexical::byte::is_line_ending_byte;
+use lexical::byte::is_name_break;
+use lexical::byte::is_name_start;
 use lexical::byte::is_quote;
 use lexical::byte::is_space_or_tab;
+use lexical::byte::is_tag_break;
 use lexical::byte::is_tag_name_byte;
+use lexical::byte::is_value_end;
 use lexical::byte::is_value_excluded;
 use lexical::byte::is_whitespace;
 use lexical::byte::peek;
+use lexical::constant::HTML_CDATA_SIZE;
 use lexical::constant::HTML_RAW_SIZE_MAX;
+use lexical::constant::cdata_letters;
 use lexical::constant::is_block_name;
-use lexical::constant::is_cdata_prefix_byte;
 use lexical::constant::is_raw_name;
 use lexical::line::is_blank;
 use lexical::line::line_end;
@@ -53,31 +58,6 @@ use lexical::line::mark_or_line_end;
 use lexical::line::next_line;
 use lexical::slice::from_indices;
 use rules::Rules;
-
-// What may follow a quoted value.
-fn is_tag_break(b: u8) -> bool
-    ensures { λ r. ⌜ r ≡ isTagBreak b ⌝ }
-{
-    (((b == b' ') | (b == b'\t')) | ((b == b'\n') | (b == b'\r'))) | ((b == b'/') | (b == b'>'))
-}
-
-// The first byte of an attribute name. F2: also a digit.
-fn is_name_start(rules: Rules, b: u8) -> bool
-    ensures { λ r. ⌜ r ≡ isNameStart rules b ⌝ }
-{
-    ((((b'A' <= b) & (b <= b'Z')) | ((b'a' <= b) & (b <= b'z'))) | ((b == b'_') | (b == b':')))
-        | (((b'0' <= b) & (b <= b'9')) & rules.f2)
-}
-
-// What ends an unquoted value. F4: `/` does.
-fn is_value_end(rules: Rules, b: u8) -> bool
-    ensures { λ r. ⌜ r ≡ isValueEnd rules b ⌝ }
-{
-    ((((b == b' ') | (b == b'\t')) | ((b == b'\n') | (b == b'\r')))
-        | (((b == b'"') | (b == b'\''))
-            | ((b == b'=') | ((b == b'<') | ((b == b'>') | (b == b'`'))))))
-        | ((b == b'/') & rules.f4)
-}
 
 // In a closing tag, behind its name.
 //
@@ -104,7 +84,7 @@ pub(crate) fn complete_attribute_name_before(rules: Rules, b: u8) -> State
         State::Next(StateName::CompleteAttributeNameBefore)
     } else if b == b'/' {
         State::Next(StateName::CompleteEnd)
-    } else if is_name_start(rules, b) {
+    } else if is_name_start(rules.f2, b) {
         State::Next(StateName::CompleteAttributeName)
     } else {
         complete_end(b)
@@ -180,7 +160,7 @@ pub(crate) fn complete_attribute_value_quoted(marker: u8, b: u8) -> State
 pub(crate) fn complete_attribute_value_unquoted(rules: Rules, b: u8) -> State
     ensures { λ r. ⌜ r ≡ valueUnquotedOf rules b ⌝ }
 {
-    if is_value_end(rules, b) {
+    if is_value_end(rules.f4, b) {
         if rules.f5 {
             complete_attribute_name_after(rules, b)
         } else {
@@ -606,17 +586,6 @@ fn basic_self_closing(line: &[u8], at: usize) -> Opening
     Opening::Shut
 }
 
-// What may follow a tag name.
-fn is_name_break(line: &[u8], at: usize) -> bool
-    ensures { λ r. ⌜ r ≡ isNameBreak (drop at (now (line .entry))) ⌝ }
-{
-    if at >= line.len() {
-        return true;
-    }
-    let b = line[at];
-    ((b == b'\n') | (b == b'\r')) | (((b == b' ') | (b == b'\t')) | ((b == b'/') | (b == b'>')))
-}
-
 // In a tag's name, which begins at an index: what the name opens.
 //
 //     <ab>
@@ -664,21 +633,9 @@ fn tag_close_start(rules: Rules, line: &[u8], at: usize, flag: u8) -> Opening
 //     <![CDATA[>&<]]>
 //        ^^^^^^
 fn cdata_open_inside(line: &[u8], at: usize) -> bool
-    requires { ⌜ at ≤ length (now line) ⌝ }
     ensures { λ r. ⌜ r ≡ begins cdataPrefix (drop at (now (line .entry))) ⌝ }
 {
-    let mut size = 0;
-    while size < 6 {
-        let index = at + size;
-        if index >= line.len() {
-            return false;
-        }
-        if !is_cdata_prefix_byte(size, line[index]) {
-            return false;
-        }
-        size += 1;
-    }
-    true
+    cdata_letters(line, at, 0) == HTML_CDATA_SIZE
 }
 
 // After `<!-`: another `-`.

@@ -1,7 +1,7 @@
 -- The run of the machine from its start gives what the rules say of inline raw HTML. A closer `c c >` is found by three states, by how many of its bytes were
 -- seen just before; the other states follow the openings byte by byte, and what the other alternatives say of an opening computes to nothing.
 use mathlib.Core.Path.{_≡_, refl, sym, _∙_, ap}
-use mathlib.Core.Bool.{true, false}
+use mathlib.Core.Bool.{Bool, true, false}
 use mathlib.Core.List.{List, [], _∷_, _++_}
 use Prim.Native.Nat.{ℕ, suc, _+_, _<_}
 use native.Mathlib.Numerals.{add-one}
@@ -9,11 +9,12 @@ use native.Mathlib.Omega.{arith}
 use lib.Dec.{eqb}
 use lib.ListN.{length, drop}
 use lib.Seq.{drop-cons}
-use borrow.Author.Tests.{lt-leb, eqb-true, eqb-false}
+use borrow.Author.Tests.{eqb-true, eqb-false, eq-eqb, ne-eqb}
 use Rattle.lexical.specs.Text.{byte, bytes, pick, first}
 use Rattle.lexical.specs.Byte.{isLetter}
 use Rattle.lexical.specs.Name.{cdataPrefix}
 use Rattle.lexical.proofs.Cases.{split}
+use Rattle.lexical.proofs.Prefix.{cdata-size, letters-one}
 use Rattle.rules.specs.Search.{choose, Left, left, nothing, orElse, throughFirst}
 use Rattle.rules.specs.Tag.{inlineTags, openTag, closingTag}
 use Rattle.rules.specs.Inline.{comment, instruction, declaration, htmlTag, whole, letters, prefix, lacks, carrying, cdataBody, rawHtml}
@@ -108,13 +109,9 @@ module _ (ρ : Rules) where
   cdata-seen s = seen (byte "]") Cdata CdataClose CdataEnd refl (λ k x. refl) (λ k x. refl) cdata-end-at s .0
 
   -- ---- the prefix `CDATA[`, compared from the carry on
-  prefix-length : length cdataPrefix ≡ 6
-  unfolding cdataPrefix
-  prefix-length = refl
-
   prefix-at : (k : ℕ) → k < 6 → drop k cdataPrefix ≡ first (drop k cdataPrefix) ∷ drop (suc k) cdataPrefix
   prefix-at k h =
-      let l : k < length cdataPrefix = omega (arith, prefix-length) in
+      let l : k < length cdataPrefix = omega (arith, cdata-size) in
       let e = drop-cons cdataPrefix k 0 l in
       e ∙ ap (λ b. b ∷ drop (suc k) cdataPrefix) (sym (ap first e))
 
@@ -135,19 +132,26 @@ module _ (ρ : Rules) where
   unfolding prefix
   prefix-all k s = refl
 
-  opened-at : (k x : ℕ) → k < 6 → cdataOpenInsideOf k x ≡ pick (eqb x (first (drop k cdataPrefix))) (cdataCounted (k + 1)) Nok
+  -- the state's byte is that one, or is not
+  opened-at : (k x : ℕ) → k < 6 → (t : Bool) → eqb x (first (drop k cdataPrefix)) ≡ t → cdataOpenInsideOf k x ≡ cdataCounted k (pick t (k + 1) k)
   unfolding cdataOpenInsideOf
-  opened-at k x h = rw (lt-leb 6 k h)
+  opened-at k x h t e = ap (cdataCounted k) (letters-one k x h ∙ ap (λ b. pick b (k + 1) k) e)
+
+  counted-more : (k : ℕ) → cdataCounted k (k + 1) ≡ pick (eqb (k + 1) 6) (Next Cdata 0) (Next CdataOpenInside (k + 1))
+  counted-more k = rw (ne-eqb (k + 1) k (λ z. omega arith))
+
+  counted-none : (k : ℕ) → cdataCounted k k ≡ Nok
+  counted-none k = rw (eq-eqb k k refl)
 
   cdata-open-is : (s : List ℕ) (k : ℕ) → k < 6 → runOf ρ CdataOpenInside k s ≡ cdataBody (prefix k (drop k cdataPrefix) s)
   unfolding runOf
   cdata-open-is [] k h = rw (prefix-at k h, prefix-out)
   cdata-open-is (x ∷ xs) k h =
       rw (prefix-at k h, prefix-in) (split (eqb x (first (drop k cdataPrefix)))
-      (λ e. rw (opened-at k x h, e) (split (eqb (k + 1) 6)
+      (λ e. rw (opened-at k x h true e, counted-more k, e) (split (eqb (k + 1) 6)
       (λ l. let five : suc k ≡ 6 = omega (arith, eqb-true (k + 1) 6 l) in rw (l, five, prefix-done, prefix-all) (cdata-seen xs 0))
       (λ l. let less : k + 1 < 6 = omega (arith, eqb-false (k + 1) 6 l) in rw (l, ← add-one k) (cdata-open-is xs (k + 1) less))))
-      (λ e. rw (opened-at k x h, e)))
+      (λ e. rw (opened-at k x h false e, counted-none k, e)))
 
   cdata-is : (s : List ℕ) (k : ℕ) → k < 6 → runOf ρ CdataOpenInside k s ≡ rawHtml ρ k (bytes "<![" ++ s)
   unfolding rawHtml

@@ -1,7 +1,7 @@
 -- The run in the states of tags leaves what the grammar of tags says. A state that stays at a class of bytes passes the class; what follows a tag name or an
 -- attribute is shown by induction on the number of attributes that the grammar allows, each of which has a byte.
 use mathlib.Core.Path.{_≡_, refl, sym, _∙_, ap}
-use mathlib.Core.Bool.{Bool, true, false, _&&_, _||_, not}
+use mathlib.Core.Bool.{Bool, true, false, _||_, not}
 use mathlib.Core.List.{List, [], _∷_}
 use Prim.Native.Nat.{ℕ, zero, suc, _<_, _≤_}
 use native.Mathlib.Omega.{arith}
@@ -9,14 +9,15 @@ use lib.Dec.{eqb}
 use lib.ListN.{drop, length}
 use borrow.Author.Tests.{eqb-true, not-false, not-true}
 use Rattle.lexical.specs.Text.{byte, bytes, pick, first}
-use Rattle.lexical.specs.Byte.{isLetter, isDigit, isTagNameByte, isAttributeNameStart, isAttributeNameByte, isSpaceOrTab, isLineEndingByte, isWhitespace, isQuote, isValueExcluded}
-use Rattle.lexical.proofs.Cases.{split, clash, or-left, or-right, excluded, or-no}
+use Rattle.lexical.specs.Byte.{isDigit, isTagNameByte, isAttributeNameStart, isAttributeNameByte, isSpaceOrTab, isLineEndingByte, isWhitespace, isQuote, isValueExcluded, isTagBreak, isValueEnd}
+use Rattle.lexical.proofs.Cases.{split, or-left, or-right, or-no}
+use Rattle.lexical.proofs.Classes.{name-start-no, break-start-no}
 use Rattle.rules.specs.Search.{choose, begins, past, Left, exactly}
 use Rattle.rules.specs.Tag.{Grammar, inlineTags, tagEnd, pastQuote, specification, startsName, isValueByte, value, values, attribute, attributes}
 use Rattle.rules.specs.Inline.{carrying}
 use Rattle.rules.specs.declared.Rules.{Rules}
 use Rattle.rules.proofs.Past.{past-none, past-cases, past-length}
-use Rattle.html.specs.TextMachine.{isTagBreak, isValueEnd, spaced, stepOf, runOf, endOf, tagCloseOf, tagCloseBetweenOf, tagOpenOf, tagOpenBetweenOf, attributeNameOf, attributeNameAfterOf, valueBeforeOf, valueQuotedOf, valueQuotedAfterOf, valueUnquotedOf}
+use Rattle.html.specs.TextMachine.{spaced, stepOf, runOf, endOf, tagCloseOf, tagCloseBetweenOf, tagOpenOf, tagOpenBetweenOf, attributeNameOf, attributeNameAfterOf, valueBeforeOf, valueQuotedOf, valueQuotedAfterOf, valueUnquotedOf}
 use Rattle.html.specs.declared.tokenizer.StateName.{StateName}
 use Rattle.html.specs.declared.tokenizer.StateName.the-variants.{TagClose, TagCloseBetween, TagOpen, TagOpenBetween, TagOpenAttributeName, TagOpenAttributeNameAfter, TagOpenAttributeValueBefore, TagOpenAttributeValueQuoted, TagOpenAttributeValueQuotedAfter, TagOpenAttributeValueUnquoted, End}
 use Rattle.html.specs.declared.tokenizer.State.{State}
@@ -71,57 +72,15 @@ module _ (ρ : Rules) (k : ℕ) where
   tag-span s = span isTagNameByte TagOpen TagOpenAttributeValueQuotedAfter (λ x h. simp h) (λ x h. simp h) s
 
   -- ---- unquoted values
-  -- a value ends at a break, and no byte that a value lacks is one
-  end-break : (x : ℕ) → isValueEnd ρ x ≡ true → isTagBreak x ≡ true
-  end-break x h = split (isWhitespace x) (λ a. simp a) (λ a. split (eqb x (byte "/")) (λ b. simp (a, b)) (λ b. simp (a, b) (simp (a, b) at h)))
-
-  stop-break : (x : ℕ) → isValueExcluded x ≡ true → isValueEnd ρ x ≡ false → isTagBreak x ≡ false
-  stop-break x h e =
-      let o = or-right (isWhitespace x) ((eqb x (byte "/") && ρ .t1) || eqb x (byte ">")) e in
-      simp (or-left (isWhitespace x) ((eqb x (byte "/") && ρ .t1) || eqb x (byte ">")) e, excluded isValueExcluded (byte "/") x refl h, or-right (eqb x (byte "/") && ρ .t1) (eqb x (byte ">")) o)
-
-  -- a byte of a value neither ends it nor is lacked
-  byte-included : (x : ℕ) → isValueByte g x ≡ true → isValueExcluded x ≡ false
-  byte-included x h = or-left (isValueExcluded x) (eqb x (byte "/") && ρ .t1) (not-true _ h)
-
-  byte-inside : (x : ℕ) → isValueByte g x ≡ true → isValueEnd ρ x ≡ false
-  byte-inside x h =
-      let a = byte-included x h in
-      let space : isWhitespace x ≡ false = or-left (isWhitespace x) _ a in
-      let gt : eqb x (byte ">") ≡ false = excluded (λ b. not (isValueExcluded b)) (byte ">") x refl (rw a) in
-      simp (space, or-right (isValueExcluded x) (eqb x (byte "/") && ρ .t1) (not-true _ h), gt)
-
-  byte-outside : (x : ℕ) → isValueByte g x ≡ false → isValueEnd ρ x ≡ false → isValueExcluded x ≡ true
-  byte-outside x h e =
-      split (isValueExcluded x) (λ a. a)
-      (λ a.
-      let o = or-right (isWhitespace x) ((eqb x (byte "/") && ρ .t1) || eqb x (byte ">")) e in
-      let slash = or-left (eqb x (byte "/") && ρ .t1) (eqb x (byte ">")) o in
-      clash (isValueExcluded x || (eqb x (byte "/") && ρ .t1)) (not-false _ h) (rw (a, slash)))
-
   unquoted-span : (s : List ℕ) → runOf ρ TagOpenAttributeValueUnquoted k s ≡ runOf ρ TagOpenAttributeValueQuotedAfter k (past (isValueByte g) s)
   unfolding valueUnquotedOf valueQuotedAfterOf
   unquoted-span s =
       span (isValueByte g) TagOpenAttributeValueUnquoted TagOpenAttributeValueQuotedAfter
-      (λ x h. rw (byte-inside x h, byte-included x h))
-      (λ x h. split (isValueEnd ρ x) (λ e. rw (e, end-break x e)) (λ e. let a = byte-outside x h e in rw (e, a, stop-break x a e)))
+      (λ x h. rw (not-true (isValueEnd (ρ .t1) x) h))
+      (λ x h. rw (not-false (isValueEnd (ρ .t1) x) h))
       s
 
   -- ---- classes
-  start-no : (x : ℕ) → isAttributeNameByte x ≡ false → isAttributeNameStart x ≡ false
-  start-no x h =
-      let a = or-left (isTagNameByte x) (eqb x (byte "_") || (eqb x (byte ".") || eqb x (byte ":"))) h in
-      let b = or-right (isTagNameByte x) (eqb x (byte "_") || (eqb x (byte ".") || eqb x (byte ":"))) h in
-      let l = or-right (isDigit x) (isLetter x) (or-right (eqb x (byte "-")) (isDigit x || isLetter x) a) in
-      let m = or-right (eqb x (byte ".")) (eqb x (byte ":")) (or-right (eqb x (byte "_")) (eqb x (byte ".") || eqb x (byte ":")) b) in
-      simp (l, or-left (eqb x (byte "_")) (eqb x (byte ".") || eqb x (byte ":")) b, m)
-
-  -- at a break that is no whitespace stands `/` or `>`
-  break-start-no : (x : ℕ) → isTagBreak x ≡ true → isWhitespace x ≡ false → isAttributeNameStart x ≡ false
-  break-start-no x t h =
-      split (eqb x (byte "/")) (λ e. rw (eqb-true x (byte "/") e))
-      (λ e. split (eqb x (byte ">")) (λ j. rw (eqb-true x (byte ">") j)) (λ j. let z : false ≡ true = simp (h, e, j) at t in cc))
-
   -- no inline attribute name begins with a digit
   starts-is : (x : ℕ) → startsName g x ≡ isAttributeNameStart x
   starts-is x = split (isDigit x) (λ d. rw d (or-no (isAttributeNameStart x))) (λ d. rw d (or-no (isAttributeNameStart x)))
@@ -223,7 +182,7 @@ module _ (ρ : Rules) (k : ℕ) where
     name-values (suc m) s z l =
         name-span s
         ∙ past-cases (λ r. runOf ρ TagOpenAttributeNameAfter k r ≡ carrying k (specification (attributes g n) (values g (attributes g n) (suc m)) r)) isAttributeNameByte s (name-end (values g (attributes g n) (suc m)) (omega arith))
-        (λ x xs h le. name-after-is (values g (attributes g n) (suc m)) x xs (start-no x h) (omega arith) (λ t lt. value-is (values g (attributes g n) m) t (omega arith)))
+        (λ x xs h le. name-after-is (values g (attributes g n) (suc m)) x xs (sym (starts-is x) ∙ name-start-no false x h) (omega arith) (λ t lt. value-is (values g (attributes g n) m) t (omega arith)))
 
     between-is : (s : List ℕ) → length s < suc n
         → runOf ρ TagOpenBetween k s
@@ -269,7 +228,7 @@ module _ (ρ : Rules) (k : ℕ) where
       (λ t.
       let b = run-alike TagOpenAttributeValueQuotedAfter TagOpenBetween x xs (at-break x t) ∙ between-is n (after-is n) (x ∷ xs) l in
       split (isWhitespace x) (λ sp. b ∙ ap (carrying k) (sym (attributes-spaced n x xs sp)))
-      (λ sp. rw (attributes-end n x xs sp) (rw (past-none isWhitespace x xs sp, starts-is x, break-start-no x t sp) at b)))
+      (λ sp. rw (attributes-end n x xs sp) (rw (past-none isWhitespace x xs sp, break-start-no false x t) at b)))
       (λ t. rw (attributes-end n x xs (or-left (isWhitespace x) (eqb x (byte "/") || eqb x (byte ">")) t)) (no-break x xs t))
 
   pub open-tag-is : (n : ℕ) (s : List ℕ) → length s < n → runOf ρ TagOpen k s ≡ carrying k (attributes g n (past isTagNameByte s))

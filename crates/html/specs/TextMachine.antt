@@ -1,28 +1,18 @@
 -- The machine of html_text.rt: what each state does with a byte, and the run over what is left of a text. It need not be believed: no entry's contract
 -- cites it, only those of single steps and of the runs in crates/reader, and proofs/TextMeans.antt shows that the run gives what the rules say.
-use Prim.Native.Nat.{ℕ, _+_}
-use mathlib.Core.Bool.{Bool, _&&_, _||_}
+use Prim.Native.Nat.{ℕ}
 use mathlib.Core.List.{List, [], _∷_}
-use lib.Dec.{eqb, leb}
-use lib.ListN.{drop}
-use Rattle.lexical.specs.Text.{byte, pick, first, run}
+use lib.Dec.{eqb}
+use Rattle.lexical.specs.Text.{byte, pick, run}
 use Rattle.lexical.specs.Line.{isInner}
-use Rattle.lexical.specs.Byte.{isLetter, isTagNameByte, isAttributeNameStart, isAttributeNameByte, isSpaceOrTab, isLineEndingByte, isWhitespace, isQuote, isValueExcluded}
-use Rattle.lexical.specs.Name.{cdataPrefix}
+use Rattle.lexical.specs.Byte.{isLetter, isTagNameByte, isAttributeNameStart, isAttributeNameByte, isSpaceOrTab, isLineEndingByte, isQuote, isValueExcluded, isTagBreak, isValueEnd}
+use Rattle.lexical.specs.Name.{cdataLetters}
 use Rattle.rules.specs.Inline.{Read, takes, lacks}
 use Rattle.rules.specs.declared.Rules.{Rules}
 use Rattle.html.specs.declared.tokenizer.StateName.{StateName}
 use Rattle.html.specs.declared.tokenizer.StateName.the-variants.{Start, Open, DeclarationOpen, CommentOpenInside, Comment, CommentClose, CommentEnd, CdataOpenInside, Cdata, CdataClose, CdataEnd, Declaration, Instruction, InstructionClose, TagCloseStart, TagClose, TagCloseBetween, TagOpen, TagOpenBetween, TagOpenAttributeName, TagOpenAttributeNameAfter, TagOpenAttributeValueBefore, TagOpenAttributeValueQuoted, TagOpenAttributeValueQuotedAfter, TagOpenAttributeValueUnquoted, End}
 use Rattle.html.specs.declared.tokenizer.State.{State}
 use Rattle.html.specs.declared.tokenizer.State.the-variants.{Next, Ok, Nok}
-
--- what may follow a tag name or a quoted value
-abbrev pub isTagBreak : ℕ → Bool
-isTagBreak b = isWhitespace b || (eqb b (byte "/") || eqb b (byte ">"))
-
--- what ends an unquoted value; T1: `/` does
-abbrev pub isValueEnd : Rules → ℕ → Bool
-isValueEnd ρ b = isWhitespace b || ((eqb b (byte "/") && ρ .t1) || eqb b (byte ">"))
 
 unfoldable pub startOf : ℕ → ℕ → State
 startOf k b = pick (eqb b (byte "<")) (Next Open k) Nok
@@ -51,12 +41,12 @@ commentCloseOf k b = pick (eqb b (byte "-")) (Next CommentEnd k) (commentOf k b)
 unfoldable pub commentEndOf : ℕ → ℕ → State
 commentEndOf k b = pick (eqb b (byte ">")) (endOf b) (pick (eqb b (byte "-")) (commentCloseOf k b) (commentOf k b))
 
--- after a byte of the prefix: the next one, or the body
-abbrev pub cdataCounted : ℕ → State
-cdataCounted n = pick (eqb n 6) (Next Cdata 0) (Next CdataOpenInside n)
+-- n letters of the prefix are counted, k of them before: no more, or all, or so many
+abbrev pub cdataCounted : ℕ → ℕ → State
+cdataCounted k n = pick (eqb n k) Nok (pick (eqb n 6) (Next Cdata 0) (Next CdataOpenInside n))
 
 unfoldable pub cdataOpenInsideOf : ℕ → ℕ → State
-cdataOpenInsideOf k b = pick (leb 6 k) Nok (pick (eqb b (first (drop k cdataPrefix))) (cdataCounted (k + 1)) Nok)
+cdataOpenInsideOf k b = cdataCounted k (cdataLetters k (b ∷ []))
 
 unfoldable pub cdataOf : ℕ → ℕ → State
 cdataOf k b = pick (eqb b (byte "]")) (Next CdataClose k) (Next Cdata k)
@@ -115,7 +105,7 @@ unfoldable pub valueQuotedAfterOf : ℕ → ℕ → State
 valueQuotedAfterOf k b = pick (isTagBreak b) (tagOpenBetweenOf k b) Nok
 
 unfoldable pub valueUnquotedOf : Rules → ℕ → ℕ → State
-valueUnquotedOf ρ k b = pick (isValueEnd ρ b) (tagOpenBetweenOf k b) (pick (isValueExcluded b) Nok (Next TagOpenAttributeValueUnquoted k))
+valueUnquotedOf ρ k b = pick (isValueEnd (ρ .t1) b) (valueQuotedAfterOf k b) (Next TagOpenAttributeValueUnquoted k)
 
 abbrev pub stepOf : Rules → StateName → ℕ → ℕ → State
 stepOf ρ Start k b = startOf k b

@@ -17,7 +17,7 @@
 // scan left. A `Retry` of the Rust is a call, and the state that an attempt goes on with is a parameter.
 ghost use mathlib.Core.Path.{_≡_};
 ghost use Rattle.html.specs.declared.tokenizer.State.the-variants.{Next};
-ghost use Rattle.html.specs.TextMachine.{attributeNameAfterOf, attributeNameOf, cdataCloseOf, cdataEndOf, cdataOf, cdataOpenInsideOf, commentCloseOf, commentEndOf, commentOf, commentOpenInsideOf, declarationOf, declarationOpenOf, endOf, instructionCloseOf, instructionOf, openOf, startOf, tagCloseBetweenOf, tagCloseOf, tagCloseStartOf, tagOpenBetweenOf, tagOpenOf, valueBeforeOf, valueQuotedAfterOf, valueQuotedOf, valueUnquotedOf, isTagBreak, isValueEnd};
+ghost use Rattle.html.specs.TextMachine.{attributeNameAfterOf, attributeNameOf, cdataCloseOf, cdataEndOf, cdataOf, cdataOpenInsideOf, commentCloseOf, commentEndOf, commentOf, commentOpenInsideOf, declarationOf, declarationOpenOf, endOf, instructionCloseOf, instructionOf, openOf, startOf, tagCloseBetweenOf, tagCloseOf, tagCloseStartOf, tagOpenBetweenOf, tagOpenOf, valueBeforeOf, valueQuotedAfterOf, valueQuotedOf, valueUnquotedOf};
 use crate::tokenizer::State;
 use crate::tokenizer::StateName;
 use lexical::byte::is_attribute_name_byte;
@@ -26,25 +26,13 @@ use lexical::byte::is_letter;
 use lexical::byte::is_line_ending_byte;
 use lexical::byte::is_quote;
 use lexical::byte::is_space_or_tab;
+use lexical::byte::is_tag_break;
 use lexical::byte::is_tag_name_byte;
+use lexical::byte::is_value_end;
 use lexical::byte::is_value_excluded;
-use lexical::constant::is_cdata_prefix_byte;
+use lexical::constant::HTML_CDATA_SIZE;
+use lexical::constant::cdata_letters;
 use rules::Rules;
-
-// What may follow a tag name or a quoted value.
-fn is_tag_break(b: u8) -> bool
-    ensures { λ r. ⌜ r ≡ isTagBreak b ⌝ }
-{
-    (((b == b' ') | (b == b'\t')) | ((b == b'\n') | (b == b'\r'))) | ((b == b'/') | (b == b'>'))
-}
-
-// What ends an unquoted value. T1: `/` does.
-fn is_value_end(rules: Rules, b: u8) -> bool
-    ensures { λ r. ⌜ r ≡ isValueEnd rules b ⌝ }
-{
-    (((b == b' ') | (b == b'\t')) | ((b == b'\n') | (b == b'\r')))
-        | (((b == b'/') & rules.t1) | (b == b'>'))
-}
 
 // Start of inline raw HTML.
 //
@@ -166,17 +154,17 @@ pub(crate) fn comment_end(size: u8, b: u8) -> State
 pub(crate) fn cdata_open_inside(size: u8, b: u8) -> State
     ensures { λ r. ⌜ r ≡ cdataOpenInsideOf size b ⌝ }
 {
-    if size >= 6 {
+    let carry = size as usize;
+    let byte = [b];
+    let count = cdata_letters(&byte, 0, carry);
+    if count == carry {
         return State::Nok;
     }
-    if is_cdata_prefix_byte(size as usize, b) {
-        let count = size + 1;
-        if count == 6 {
-            return State::Next(StateName::Cdata, 0);
-        }
-        return State::Next(StateName::CdataOpenInside, count);
+    if count == HTML_CDATA_SIZE {
+        return State::Next(StateName::Cdata, 0);
     }
-    State::Nok
+    let letters = count as u8;
+    State::Next(StateName::CdataOpenInside, letters)
 }
 
 // In CDATA.
@@ -412,17 +400,15 @@ pub(crate) fn tag_open_attribute_value_quoted(marker: u8, size: u8, b: u8) -> St
     }
 }
 
-// In an unquoted value. T1: only its first byte may be `/`.
+// In an unquoted value. T1: only its first byte may be `/`. What ends it must be fit to follow a value.
 //
 //     a <b c=d> e
 //            ^
 pub(crate) fn tag_open_attribute_value_unquoted(rules: Rules, size: u8, b: u8) -> State
     ensures { λ r. ⌜ r ≡ valueUnquotedOf rules size b ⌝ }
 {
-    if is_value_end(rules, b) {
-        tag_open_between(size, b)
-    } else if is_value_excluded(b) {
-        State::Nok
+    if is_value_end(rules.t1, b) {
+        tag_open_attribute_value_quoted_after(size, b)
     } else {
         State::Next(StateName::TagOpenAttributeValueUnquoted, size)
     }

@@ -1,4 +1,5 @@
 pub mod Cases
+pub mod Classes
 pub mod Suffix
 pub mod Run
 pub mod Ending
@@ -10,3 +11,4 @@ pub mod Table
 pub mod Same
 pub mod Names
 pub mod RawNames
+pub mod Prefix

@@ -1,6 +1,6 @@
 -- The two tables of names. One computed test says of both that their bytes are lower case letters or digits, their names are in order, their offsets rise
 -- and cut just the names; the laws turn it into the rule at each entry. Then the lookup: one turn compares a name with the part between two offsets.
-use mathlib.Core.Path.{_≡_, refl, sym, _∙_}
+use mathlib.Core.Path.{_≡_, refl, sym, _∙_, ap}
 use mathlib.Core.Bool.{Bool, true, false, _&&_, _||_}
 use mathlib.Core.List.{List, [], _∷_}
 use Prim.Native.Nat.{ℕ, _+_, _-_, _<_, _≤_}
@@ -33,7 +33,7 @@ sameNames [] (y ∷ ys) = false
 sameNames (x ∷ xs) [] = false
 sameNames (x ∷ xs) (y ∷ ys) = sameBytes x y && sameNames xs ys
 
-same-names : (xs ys : List (List ℕ)) → sameNames xs ys ≡ true → xs ≡ ys
+pub same-names : (xs ys : List (List ℕ)) → sameNames xs ys ≡ true → xs ≡ ys
 unfolding sameNames
 same-names [] [] e = refl
 same-names [] (y ∷ ys) e = cc
@@ -108,8 +108,8 @@ module _ (names : List (List ℕ)) (e : sound names ≡ true) where
     pub table-rises : rising (length table) offsets ≡ true
     table-rises = rw (t, o) offsets-rise
 
-    pub member-of : (n : List ℕ) → isMember n (cut table offsets) ≡ isMember n names
-    member-of n = rw (t, o, cut-is)
+    pub names-are : cut table offsets ≡ names
+    names-are = rw (t, o, cut-is)
 
 -- what rising offsets say of each
 module _ (n : ℕ) (offsets : List ℕ) (e : rising n offsets ≡ true) (k : ℕ) (h : k + 1 < length offsets) where
@@ -122,27 +122,34 @@ module _ (n : ℕ) (offsets : List ℕ) (e : rising n offsets ≡ true) (k : ℕ
   within-table = leb-true _ _ (all-at 0 (λ o. leb o n) offsets (and-left (all (λ o. leb o n) offsets) (chain ltb offsets) e) (k + 1) h)
 
 -- ---- the lookup
--- what is left of the table's names from offset k on
-module _ (n table offsets : List ℕ) (k : ℕ) where
-  abbrev pub memberFrom : Bool
-  memberFrom = isMember n (cut table (drop k offsets))
+-- the names that a table and its offsets cut, from offset k on: the one between it and the next, and those behind
+module _ (table offsets : List ℕ) (k : ℕ) where
+  abbrev pub namesFrom : List (List ℕ)
+  namesFrom = cut table (drop k offsets)
 
-  -- the name between offset k and the next
   abbrev pub part : List ℕ
   part = take (getD offsets (k + 1) 0 - getD offsets k 0) (drop (getD offsets k 0) table)
 
-  member-in : k + 1 < length offsets → memberFrom ≡ (sameBytes n part || isMember n (cut table (drop (k + 1) offsets)))
-  unfolding isMember cut
-  member-in h = let l : k < length offsets = omega arith in rw (suffix-in offsets k l, suffix-in offsets (k + 1) h)
+  pub names-in : k + 1 < length offsets → namesFrom ≡ part ∷ cut table (drop (k + 1) offsets)
+  unfolding cut
+  names-in h = let l : k < length offsets = omega arith in rw (suffix-in offsets k l, suffix-in offsets (k + 1) h)
 
-  pub hit : k + 1 < length offsets → sameBytes n part ≡ true → memberFrom ≡ true
-  hit h t = member-in h ∙ rw t
-
-  pub miss : k + 1 < length offsets → sameBytes n part ≡ false → isMember n (cut table (drop (k + 1) offsets)) ≡ memberFrom
-  miss h t = sym (member-in h ∙ rw t)
-
-  pub no-more : length offsets ≤ k + 1 → memberFrom ≡ false
-  unfolding isMember cut
-  no-more h =
+  pub names-out : length offsets ≤ k + 1 → namesFrom ≡ []
+  unfolding cut
+  names-out h =
       split (ltb k (length offsets)) (λ t. rw (suffix-in offsets k (ltb-true k (length offsets) t), suffix-out offsets (k + 1) h))
       (λ t. rw (suffix-out offsets k (ltb-false k (length offsets) t)))
+
+  -- one turn: the name is that one, or is looked for behind it
+  module _ (n : List ℕ) where
+    pub hit : k + 1 < length offsets → sameBytes n part ≡ true → isMember n namesFrom ≡ true
+    unfolding isMember
+    hit h t = ap (isMember n) (names-in h) ∙ rw t
+
+    pub miss : k + 1 < length offsets → sameBytes n part ≡ false → isMember n (cut table (drop (k + 1) offsets)) ≡ isMember n namesFrom
+    unfolding isMember
+    miss h t = sym (ap (isMember n) (names-in h) ∙ rw t)
+
+    pub no-more : length offsets ≤ k + 1 → isMember n namesFrom ≡ false
+    unfolding isMember
+    no-more h = ap (isMember n) (names-out h)

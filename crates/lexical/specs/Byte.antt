@@ -1,6 +1,7 @@
 -- Byte classes, in the words of CommonMark 0.31.2.
 use Prim.Native.Nat.{ℕ, _+_}
-use mathlib.Core.Bool.{Bool, _&&_, _||_}
+use mathlib.Core.Bool.{Bool, true, _&&_, _||_}
+use mathlib.Core.List.{List, [], _∷_}
 use lib.Dec.{leb, eqb}
 use Rattle.lexical.specs.Text.{byte, pick}
 
@@ -48,6 +49,23 @@ isQuote b = eqb b (byte "\"") || eqb b (byte "'")
 abbrev pub isValueExcluded : ℕ → Bool
 isValueExcluded b =
     isWhitespace b || (isQuote b || (eqb b (byte "=") || (eqb b (byte "<") || (eqb b (byte ">") || eqb b (byte "`")))))
+
+-- 6.6: behind a tag name or a quoted value stands whitespace, `/` or `>`
+abbrev pub isTagBreak : ℕ → Bool
+isTagBreak b = isWhitespace b || (eqb b (byte "/") || eqb b (byte ">"))
+
+-- 6.6: a tag name is followed by one of these, or by nothing
+abbrev pub isNameBreak : List ℕ → Bool
+isNameBreak [] = true
+isNameBreak (x ∷ xs) = isTagBreak x
+
+-- 6.6: the first byte of an attribute name; 01, F2: with digits also a digit
+abbrev pub isNameStart : Bool → ℕ → Bool
+isNameStart digits b = isAttributeNameStart b || (isDigit b && digits)
+
+-- 6.6: an unquoted value ends at what it does not include; 01, T1 and F4: with slash also at `/`
+abbrev pub isValueEnd : Bool → ℕ → Bool
+isValueEnd slash b = isValueExcluded b || (eqb b (byte "/") && slash)
 
 -- `A` to `Z` in lower case, and any other byte as it is
 abbrev pub lower : ℕ → ℕ

@@ -1,10 +1,10 @@
 -- Names of tags, from CommonMark 0.31.2, section 4.6, and the CDATA prefix.
-use Prim.Native.Nat.{ℕ, _+_, _-_}
+use Prim.Native.Nat.{ℕ, suc, _+_, _-_}
 use mathlib.Core.Bool.{Bool, true, false, _&&_, _||_}
 use mathlib.Core.List.{List, [], _∷_, _++_, map}
 use lib.Dec.{eqb, leb, ltb}
 use lib.ListN.{length, take, drop}
-use Rattle.lexical.specs.Text.{bytes}
+use Rattle.lexical.specs.Text.{bytes, pick}
 use Rattle.lexical.specs.Byte.{lower}
 
 -- 4.6, start condition 6: the 62 names
@@ -100,6 +100,16 @@ isRawName n = isMember (map lower n) rawNames
 -- 6.6: a CDATA section begins with `<![CDATA[`; what follows `<![`
 unfoldable pub cdataPrefix : List ℕ
 cdataPrefix = bytes "CDATA["
+
+-- how many bytes of p stand in front of s
+unfoldable pub matched : List ℕ → List ℕ → ℕ
+matched [] s = 0
+matched (p ∷ ps) [] = 0
+matched (p ∷ ps) (x ∷ xs) = pick (eqb x p) (suc (matched ps xs)) 0
+
+-- 01, T2: k letters of the prefix were counted, and it is compared with s from there on: the letters counted then
+unfoldable pub cdataLetters : ℕ → List ℕ → ℕ
+cdataLetters k s = k + matched (drop k cdataPrefix) s
 
 -- ---- 01, What form to use where: names end to end, and the offsets that cut them
 -- the names end to end

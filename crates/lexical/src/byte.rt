@@ -2,7 +2,7 @@
 ghost use mathlib.Core.Path.{_≡_};
 ghost use lib.ListN.{drop};
 ghost use Rattle.lexical.specs.Text.{first};
-ghost use Rattle.lexical.specs.Byte.{isLetter, isDigit, isTagNameByte, isAttributeNameStart, isAttributeNameByte, isSpaceOrTab, isLineEndingByte, isWhitespace, isQuote, isValueExcluded, lower};
+ghost use Rattle.lexical.specs.Byte.{isLetter, isDigit, isTagNameByte, isAttributeNameStart, isAttributeNameByte, isSpaceOrTab, isLineEndingByte, isWhitespace, isQuote, isValueExcluded, isTagBreak, isNameBreak, isNameStart, isValueEnd, lower};
 
 // What `peek` answers past the end.
 pub const NONE: u16 = 256;
@@ -84,6 +84,31 @@ pub fn is_value_excluded(b: u8) -> bool
             | ((b == b'=') | ((b == b'<') | ((b == b'>') | (b == b'`')))))
 }
 
+// What may follow a tag name or a quoted value.
+pub fn is_tag_break(b: u8) -> bool
+    ensures { λ r. ⌜ r ≡ isTagBreak b ⌝ }
+{
+    (((b == b' ') | (b == b'\t')) | ((b == b'\n') | (b == b'\r'))) | ((b == b'/') | (b == b'>'))
+}
+
+// The first byte of an attribute name in a grammar that may let a digit begin one.
+pub fn is_name_start(digits: bool, b: u8) -> bool
+    ensures { λ r. ⌜ r ≡ isNameStart digits b ⌝ }
+{
+    ((((b'A' <= b) & (b <= b'Z')) | ((b'a' <= b) & (b <= b'z'))) | ((b == b'_') | (b == b':')))
+        | (((b'0' <= b) & (b <= b'9')) & digits)
+}
+
+// What ends an unquoted attribute value in a grammar that may let `/` end one.
+pub fn is_value_end(slash: bool, b: u8) -> bool
+    ensures { λ r. ⌜ r ≡ isValueEnd slash b ⌝ }
+{
+    ((((b == b' ') | (b == b'\t')) | ((b == b'\n') | (b == b'\r')))
+        | (((b == b'"') | (b == b'\''))
+            | ((b == b'=') | ((b == b'<') | ((b == b'>') | (b == b'`'))))))
+        | ((b == b'/') & slash)
+}
+
 // An ASCII letter in lower case, and any other byte as it is.
 pub fn to_ascii_lowercase(b: u8) -> u8
     ensures { λ r. ⌜ r ≡ lower b ⌝ }
@@ -100,4 +125,14 @@ pub fn peek(bytes: &[u8], index: usize) -> u16
     } else {
         NONE
     }
+}
+
+// Whether a tag name may end at an index.
+pub fn is_name_break(bytes: &[u8], index: usize) -> bool
+    ensures { λ r. ⌜ r ≡ isNameBreak (drop index (now (bytes .entry))) ⌝ }
+{
+    if index >= bytes.len() {
+        return true;
+    }
+    is_tag_break(bytes[index])
 }

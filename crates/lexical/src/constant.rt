@@ -2,11 +2,11 @@
 ghost use mathlib.Core.Path.{_≡_};
 ghost use mathlib.Core.List.{map};
 ghost use mathlib.Core.Bool.{true};
-ghost use lib.Dec.{eqb, ltb};
+ghost use lib.Dec.{ltb};
 ghost use lib.ListN.{length, drop};
-ghost use Rattle.lexical.specs.Text.{first, limit};
+ghost use Rattle.lexical.specs.Text.{limit};
 ghost use Rattle.lexical.specs.Byte.{lower};
-ghost use Rattle.lexical.specs.Name.{sameBytes, isMember, isBlockName, isRawName, blockNames, rawNames, nameBytes, nameOffsets, cut, rising, cdataPrefix};
+ghost use Rattle.lexical.specs.Name.{sameBytes, isMember, isBlockName, isRawName, blockNames, rawNames, nameBytes, nameOffsets, cut, rising, cdataPrefix, cdataLetters};
 use crate::byte::to_ascii_lowercase;
 
 // The names that open an HTML block of kind 6, end to end, and where each begins; the last offset is where the last name ends.
@@ -90,6 +90,9 @@ pub const HTML_RAW_SIZE_MAX: usize = 8;
 // What follows `<![` in a CDATA section's opening.
 const HTML_CDATA_PREFIX: [u8; 6] = *b"CDATA[";
 
+// The length of that prefix.
+pub const HTML_CDATA_SIZE: usize = 6;
+
 // Columns from one tab stop to the next.
 pub const TAB_SIZE: usize = 4;
 
@@ -113,7 +116,7 @@ fn same_lower(name: &[u8], part: &[u8]) -> bool
     true
 }
 
-// Whether the name, in lower case, is one of those that the offsets cut from the table.
+// Whether the name, in lower case, is one of those that the offsets cut from the table: the names of a whole list or of a part of it.
 fn is_member(name: &[u8], table: &[u8], offsets: &[usize]) -> bool
     requires { ⌜ rising (length (now table)) (now offsets) ≡ true ⌝ }
     ensures { λ r. ⌜ r ≡ isMember (map lower (now (name .entry))) (cut (now (table .entry)) (now (offsets .entry))) ⌝ }
@@ -172,14 +175,30 @@ pub fn is_raw_name(name: &[u8]) -> bool
     is_member(name, &table, &offsets)
 }
 
-// Whether the byte is the one that follows so many bytes of the CDATA prefix.
-pub fn is_cdata_prefix_byte(size: usize, b: u8) -> bool
-    ensures { λ r. ⌜ r ≡ eqb b (first (drop size cdataPrefix)) ⌝ }
+fn cdata_prefix() -> [u8; 6]
+    ensures { λ r. ⌜ r ≡ cdataPrefix ⌝ }
 {
-    if size < 6 {
-        return b == HTML_CDATA_PREFIX[size];
+    HTML_CDATA_PREFIX
+}
+
+// How many letters of the CDATA prefix are counted: the carry, and of those behind it as many as stand at an index.
+pub fn cdata_letters(bytes: &[u8], index: usize, carry: usize) -> usize
+    ensures { λ r. ⌜ r ≡ cdataLetters carry (drop index (now (bytes .entry))) ⌝ }
+{
+    let prefix = cdata_prefix();
+    let mut count = carry;
+    let mut at = index;
+    while count < HTML_CDATA_SIZE {
+        if at >= bytes.len() {
+            return count;
+        }
+        if bytes[at] != prefix[count] {
+            return count;
+        }
+        count += 1;
+        at += 1;
     }
-    false
+    count
 }
 
 // Whether a bulletin or a text has more bytes than are taken.

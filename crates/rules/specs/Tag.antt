@@ -2,12 +2,12 @@
 -- left behind what it names. 'Spaces, tabs, and up to one line ending' is any whitespace here: an inline text has no two line endings with only blanks
 -- between (refusal 6), and a line has none.
 use Prim.Native.Nat.{ℕ, zero, suc}
-use mathlib.Core.Bool.{Bool, true, false, _&&_, _||_, not}
+use mathlib.Core.Bool.{Bool, true, false, _&&_, not}
 use mathlib.Core.List.{List, [], _∷_}
 use lib.Dec.{eqb}
 use lib.ListN.{length, drop}
-use Rattle.lexical.specs.Text.{byte, bytes, first}
-use Rattle.lexical.specs.Byte.{isLetter, isDigit, isTagNameByte, isAttributeNameStart, isAttributeNameByte, isWhitespace, isQuote, isValueExcluded}
+use Rattle.lexical.specs.Text.{bytes, first}
+use Rattle.lexical.specs.Byte.{isLetter, isTagNameByte, isAttributeNameByte, isWhitespace, isQuote, isValueExcluded, isNameStart, isValueEnd}
 use Rattle.rules.specs.Search.{choose, begins, past, Left, nothing, orElse, exactly}
 use Rattle.rules.specs.declared.Rules.{Rules}
 
@@ -43,11 +43,11 @@ specification more value s =
 
 -- the first byte of an attribute name
 abbrev pub startsName : Grammar → ℕ → Bool
-startsName g b = isAttributeNameStart b || (isDigit b && g .digits)
+startsName g b = isNameStart (g .digits) b
 
 -- a byte of an unquoted value
 abbrev pub isValueByte : Grammar → ℕ → Bool
-isValueByte g b = not (isValueExcluded b || (eqb b (byte "/") && g .slashless))
+isValueByte g b = not (isValueEnd (g .slashless) b)
 
 -- behind an unquoted value that begins with x
 abbrev pub pastUnquoted : Grammar → ℕ → List ℕ → List ℕ

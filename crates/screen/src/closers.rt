@@ -2,9 +2,12 @@
 // and a later opening of its form need not be read. That this keeps the cost linear is argued and measured, not proved (docs/DECISIONS.md, 24).
 ghost use mathlib.Core.Path.{_≡_};
 ghost use lib.ListN.{drop};
+ghost use Rattle.lexical.specs.Text.{bytes};
 ghost use Rattle.rules.specs.Search.{begins};
 ghost use Rattle.screen.specs.Closer.{formOf, isDeclaration, isAhead, without as withoutOf, allAhead};
 use lexical::byte::is_letter;
+use lexical::constant::HTML_CDATA_SIZE;
+use lexical::constant::cdata_letters;
 
 // What an opening is, as far as closers go.
 pub(crate) enum Form {
@@ -56,6 +59,16 @@ fn is_declaration(text: &[u8], index: usize) -> bool
     is_letter(text[index + 2])
 }
 
+// Whether `<![CDATA[` stands at an index.
+fn is_cdata(text: &[u8], index: usize) -> bool
+    ensures { λ r. ⌜ r ≡ begins (bytes "<![CDATA[") (drop index (now (text .entry))) ⌝ }
+{
+    if !begins_with(text, index, b"<![") {
+        return false;
+    }
+    cdata_letters(text, index + 3, 0) == HTML_CDATA_SIZE
+}
+
 // The form of the opening at an index.
 pub(crate) fn form_at(text: &[u8], index: usize) -> Form
     ensures { λ r. ⌜ r ≡ formOf (drop index (now (text .entry))) ⌝ }
@@ -66,7 +79,7 @@ pub(crate) fn form_at(text: &[u8], index: usize) -> Form
     if begins_with(text, index, b"<!--") {
         return Form::Comment;
     }
-    if begins_with(text, index, b"<![CDATA[") {
+    if is_cdata(text, index) {
         return Form::Cdata;
     }
     if is_declaration(text, index) {

@@ -1,6 +1,6 @@
-use mathlib.Core.Path.{_∙_}
-use Rattle.lexical.specs.Name.{isBlockName, blockNames}
-use Rattle.lexical.proofs.Names.{block-sound, table-rises, member-of}
+use mathlib.Core.Path.{_∙_, ap}
+use Rattle.lexical.specs.Name.{isMember, isBlockName, blockNames}
+use Rattle.lexical.proofs.Names.{block-sound, table-rises, names-are}
 use borrow.Author.Needs.{needs}
 use Rattle.lexical.proofs.constant.is_block_name.Statement.{statement}
 use Rattle.lexical.proofs.constant.is_block_name.Tie as tie
@@ -22,7 +22,7 @@ is-member-requires c κs = table-rises blockNames block-sound _ _ (c .before .be
 
 returns : tie.Need-returns
 unfolding isBlockName
-returns c = c .is-member .ensures ∙ member-of blockNames block-sound _ _ (c .before .before .before .before .block-names .ensures) (c .before .before .before .block-offsets .ensures) _
+returns c = c .is-member .ensures ∙ ap (isMember _) (names-are blockNames block-sound _ _ (c .before .before .before .before .block-names .ensures) (c .before .before .before .block-offsets .ensures))
 
 pub is-block-name-spec : {M : Type 1} → statement M
 is-block-name-spec =

@@ -6,13 +6,13 @@ use native.Mathlib.Omega.{arith}
 use lib.ListN.{length}
 use Rattle.lexical.specs.Byte.{lower}
 use Rattle.lexical.specs.Name.{isMember, cut}
-use Rattle.lexical.proofs.Names.{rises, within-table, memberFrom, hit, miss, no-more}
+use Rattle.lexical.proofs.Names.{rises, within-table, namesFrom, hit, miss, no-more}
 use borrow.Author.Needs.{needs}
 use Rattle.lexical.proofs.constant.is_member.Statement.{statement}
 use Rattle.lexical.proofs.constant.is_member.Tie as tie
 
 abbrev Inv-loop : tie.InvT-loop
-Inv-loop name table offsets k₀ k = (k ≤ length offsets) × (memberFrom (map lower name) table offsets k ≡ isMember (map lower name) (cut table offsets))
+Inv-loop name table offsets k₀ k = (k ≤ length offsets) × (isMember (map lower name) (namesFrom table offsets k) ≡ isMember (map lower name) (cut table offsets))
 
 abbrev μ-loop : tie.MeasureT-loop
 μ-loop name table offsets k₀ k = length offsets - k
@@ -51,7 +51,7 @@ same-lower-requires : tie.Need-same-lower-requires Inv-loop μ-loop
 same-lower-requires c κs = search needs
 
 returns : tie.Need-returns Inv-loop μ-loop
-returns c = let at-loop = c .before .before .before .before .before .before in sym (hit _ _ _ (at-loop .loop .k) (c .before .before .before .before .before .loop-test .taken) (sym (c .before .same-lower .ensures) ∙ c .if1 .taken)) ∙ at-loop .loop .inv .1
+returns c = let at-loop = c .before .before .before .before .before .before in sym (hit _ _ (at-loop .loop .k) _ (c .before .before .before .before .before .loop-test .taken) (sym (c .before .same-lower .ensures) ∙ c .if1 .taken)) ∙ at-loop .loop .inv .1
 
 add-k : tie.Need-add-k Inv-loop μ-loop
 add-k c = search needs
@@ -62,10 +62,10 @@ loop-less c = search needs
 loop-again : tie.Need-loop-again Inv-loop μ-loop
 loop-again c =
     let at-loop = c .before .before .before .before .before .before in
-    (omega arith, miss _ _ _ (at-loop .loop .k) (c .before .before .before .before .before .loop-test .taken) (sym (c .before .same-lower .ensures) ∙ c .if1 .left) ∙ at-loop .loop .inv .1)
+    (omega arith, miss _ _ (at-loop .loop .k) _ (c .before .before .before .before .before .loop-test .taken) (sym (c .before .same-lower .ensures) ∙ c .if1 .left) ∙ at-loop .loop .inv .1)
 
 returns-2 : tie.Need-returns-2 Inv-loop μ-loop
-returns-2 c = let at-loop = c .before in sym (no-more _ _ _ (at-loop .loop .k) (c .loop-test .left)) ∙ at-loop .loop .inv .1
+returns-2 c = let at-loop = c .before in sym (no-more _ _ (at-loop .loop .k) _ (c .loop-test .left)) ∙ at-loop .loop .inv .1
 
 pub is-member-spec : {M : Type 1} → statement M
 is-member-spec =

@@ -1,6 +1,6 @@
-use mathlib.Core.Path.{_∙_}
-use Rattle.lexical.specs.Name.{isRawName, rawNames}
-use Rattle.lexical.proofs.Names.{raw-sound, table-rises, member-of}
+use mathlib.Core.Path.{_∙_, ap}
+use Rattle.lexical.specs.Name.{isMember, isRawName, rawNames}
+use Rattle.lexical.proofs.Names.{raw-sound, table-rises, names-are}
 use borrow.Author.Needs.{needs}
 use Rattle.lexical.proofs.constant.is_raw_name.Statement.{statement}
 use Rattle.lexical.proofs.constant.is_raw_name.Tie as tie
@@ -22,7 +22,7 @@ is-member-requires c κs = table-rises rawNames raw-sound _ _ (c .before .before
 
 returns : tie.Need-returns
 unfolding isRawName
-returns c = c .is-member .ensures ∙ member-of rawNames raw-sound _ _ (c .before .before .before .before .raw-names .ensures) (c .before .before .before .raw-offsets .ensures) _
+returns c = c .is-member .ensures ∙ ap (isMember _) (names-are rawNames raw-sound _ _ (c .before .before .before .before .raw-names .ensures) (c .before .before .before .raw-offsets .ensures))
 
 pub is-raw-name-spec : {M : Type 1} → statement M
 is-raw-name-spec =
