@@ -1,6 +1,6 @@
 -- Places between pieces. In front of a line all pieces from it on remain; a line gives its block, or the first piece of its paragraph, or the line behind it.
 use mathlib.Core.Path.{_≡_, refl, sym, _∙_, ap, subst}
-use mathlib.Core.Bool.{true, false}
+use mathlib.Core.Bool.{Bool, true, false}
 use mathlib.Core.List.{List, [], _∷_, _++_}
 use Prim.Native.Nat.{ℕ, _+_, _-_, _<_, _≤_}
 use native.Mathlib.Omega.{arith}
@@ -19,7 +19,7 @@ use Rattle.rules.specs.declared.Rules.{Rules}
 use Rattle.lexical.proofs.Ending.{ending-within}
 use Rattle.rules.proofs.Cut.{lineFrom}
 use Rattle.screen.specs.Closer.{Known, allAhead}
-use Rattle.screen.specs.Remaining.{isPlain, lineAt, fromLine, fromIndex, ParagraphEnd, Onward, atLine, remaining, Valid, Leads, Same}
+use Rattle.screen.specs.Remaining.{isPlain, lineAt, fromLine, fromIndex, ParagraphEnd, Onward, atLine, remaining, Valid, isBlock, Leads, Same}
 use Rattle.screen.specs.declared.closers.Closers.{Closers}
 use Rattle.screen.specs.declared.paragraph.End.{End}
 use Rattle.screen.specs.declared.pieces.Cursor.{Cursor}
@@ -67,10 +67,11 @@ module _ (ρ : Rules) (text flags : List ℕ) where
   -- ---- a block
   module _ (i n stop : ℕ) (w : Which) (e : End) (next : ℕ) (d : Cursor) (a : next ≡ lineFrom text (e .stop)) (b : d ≡ atLine next (e .line)) where
     pub leads-block : e .stop ≤ length text → fromLine ρ text flags i n ≡ piece i stop w ∷ fromLine ρ text flags (lineFrom text (e .stop)) (e .line)
-        → Leads ρ text flags (fromLine ρ text flags i n) i stop d
-    leads-block l h =
+        → isBlock w ≡ true → Leads ρ text flags (fromLine ρ text flags i n) i stop true d
+    leads-block l h is =
         record {
           which = w;
+          is-block = is;
           is = h ∙ ap (λ t. piece i stop w ∷ fromLine ρ text flags t (e .line)) (sym a) ∙ ap (λ ps. piece i stop w ∷ ps) (sym (ap (remaining ρ text flags) b ∙ line-remaining next (e .line)));
           valid = subst (Valid text) (sym b) (line-valid next (e .line) (omega (arith, a, ending-within text (e .stop) l)));
         }
@@ -132,11 +133,12 @@ module _ (ρ : Rules) (text flags : List ℕ) where
         next-in = omega (arith, a, ending-within text (e .stop) (end .to))
 
         pub leads-inline : (start stop : ℕ) (k : Closers) → Onward ρ front o start stop k
-            → Leads ρ text flags (fromLine ρ text flags (c .next) (c .line)) start stop (record { index = stop; stop = e .stop; next = next; line = e .line; closers = k })
+            → Leads ρ text flags (fromLine ρ text flags (c .next) (c .line)) start stop false (record { index = stop; stop = e .stop; next = next; line = e .line; closers = k })
         unfolding remaining
         leads-inline start stop k on =
             record {
               which = inline;
+              is-block = refl;
               is =
                   pieces-from
                   ∙ ap (λ ps. ps ++ fromLine ρ text flags (lineFrom text (e .stop)) (e .line)) (on .is)
@@ -155,8 +157,8 @@ module _ (ρ : Rules) (text flags : List ℕ) where
             })
 
 -- the same pieces by another name
-pub leads-as : {ρ : Rules} {text flags : List ℕ} {ps qs : List Piece} {start stop : ℕ} {c : Cursor} → ps ≡ qs → Leads ρ text flags qs start stop c → Leads ρ text flags ps start stop c
-leads-as e l = record { which = l .which; is = e ∙ l .is; valid = l .valid }
+pub leads-as : {ρ : Rules} {text flags : List ℕ} {ps qs : List Piece} {start stop : ℕ} {b : Bool} {c : Cursor} → ps ≡ qs → Leads ρ text flags qs start stop b c → Leads ρ text flags ps start stop b c
+leads-as e l = record { which = l .which; is-block = l .is-block; is = e ∙ l .is; valid = l .valid }
 
 -- ---- a place in a paragraph, or behind it
 module _ (ρ : Rules) (text flags : List ℕ) (c : Cursor) (valid : Valid text c) (front : List ℕ) (f : front ≡ take (c .stop - 0) (drop 0 text)) where
@@ -174,11 +176,12 @@ module _ (ρ : Rules) (text flags : List ℕ) (c : Cursor) (valid : Valid text c
   remaining-is = ap (λ t. fromIndex ρ t (c .index) ++ fromLine ρ text flags (c .next) (c .line)) (sym inner-is)
 
   pub leads-onward : (start stop : ℕ) (k : Closers) → Onward ρ front (c .index) start stop k
-      → Leads ρ text flags (remaining ρ text flags c) start stop (record { index = stop; stop = c .stop; next = c .next; line = c .line; closers = k })
+      → Leads ρ text flags (remaining ρ text flags c) start stop false (record { index = stop; stop = c .stop; next = c .next; line = c .line; closers = k })
   unfolding remaining
   leads-onward start stop k on =
       record {
         which = inline;
+        is-block = refl;
         is =
             remaining-is
             ∙ ap (λ ps. ps ++ fromLine ρ text flags (c .next) (c .line)) (on .is)

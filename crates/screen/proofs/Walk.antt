@@ -1,6 +1,7 @@
 -- From piece to piece. Between the end of one piece and the start of the next all bytes are shown, since the pieces stand in order; so the bytes shown so far and
 -- those still to be shown are together what withholding shows, and the pieces passed and those that remain are together its pieces.
 use mathlib.Core.Path.{_≡_, refl, sym, _∙_, ap, subst}
+use mathlib.Core.Bool.{Bool}
 use mathlib.Core.List.{List, [], _∷_, _++_}
 use Prim.Native.Nat.{ℕ, suc, _+_, _-_, _<_, _≤_}
 use native.Mathlib.Omega.{arith}
@@ -65,7 +66,7 @@ module _ (ρ : Rules) (text flags : List ℕ) where
 
   module _ (c : Cursor) (from size : ℕ) (walking : Walking c from size) where
     -- ---- a piece, and the place behind it
-    module _ (start stop : ℕ) (d : Cursor) (leads : Leads ρ text flags (remaining ρ text flags c) start stop d) where
+    module _ (start stop : ℕ) (b : Bool) (d : Cursor) (leads : Leads ρ text flags (remaining ρ text flags c) start stop b d) where
       abbrev part : List ℕ
       part = take (start - from) (drop from text)
 
@@ -147,21 +148,21 @@ module _ (ρ : Rules) (text flags : List ℕ) where
       whole : (part : List ℕ) → size + length part ≤ length (shown ρ text flags) → Written out size (take (length out - size) part) new → new ≡ stored out size part
       whole part l w = w .is ∙ ap (stored out size) (take-all (length out - size) part (omega (arith, showing .same-length)))
 
-      module _ (start stop : ℕ) (d : Cursor) (leads : Leads ρ text flags (remaining ρ text flags c) start stop d) where
+      module _ (start stop : ℕ) (b : Bool) (d : Cursor) (leads : Leads ρ text flags (remaining ρ text flags c) start stop b d) where
         pub showing-on : Written out size (take (length out - size) (take (start - from) (drop from text))) new → Showing new d stop (size + (start - from)) (number + 1)
         showing-on w =
             let walking = showing .walking in
             let cut = take (start - from) (drop from text) in
-            let l = part-length c from size walking start stop d leads in
-            let is = whole cut (omega (arith, l, size-bound c from size walking start stop d leads)) w in
+            let l = part-length c from size walking start stop b d leads in
+            let is = whole cut (omega (arith, l, size-bound c from size walking start stop b d leads)) w in
             record {
-              walking = walking-on c from size walking start stop d leads;
+              walking = walking-on c from size walking start stop b d leads;
               counted = let e : length (remaining ρ text flags c) ≡ suc (length (remaining ρ text flags d)) = ap length (leads .is) in omega (arith, e, showing .counted);
               same-length = same w ∙ showing .same-length;
               bytes =
                   ap (λ b. stored b (size + (start - from)) (ahead d stop)) is
                   ∙ stores out size (size + (start - from)) cut (ahead d stop) (ap (λ n. size + n) (sym l))
-                  ∙ ap (stored out size) (sym (parted c from size walking start stop d leads))
+                  ∙ ap (stored out size) (sym (parted c from size walking start stop b d leads))
                   ∙ showing .bytes;
             }
 

@@ -1,7 +1,7 @@
 -- The pieces that remain from a place of a bulletin on, in the order of the code. It need not be believed: no public contract cites it, and the proofs show that
 -- from the first line on they are the pieces of the rules.
 use mathlib.Core.Path.{_≡_}
-use mathlib.Core.Bool.{Bool, false, _||_, not}
+use mathlib.Core.Bool.{Bool, true, false, _||_, not}
 use mathlib.Core.List.{List, [], _∷_, _++_}
 use Prim.Native.Nat.{ℕ, _+_, _<_, _≤_}
 use lib.Dec.{eqb}
@@ -103,9 +103,14 @@ pub record Valid (text : List ℕ) (c : Cursor) : Type 0 where
   pub next-within : c .next ≤ length text
   pub known : Known (c .closers) (drop (c .index) (take (c .stop) text))
 
--- a piece, and the place behind it
-pub record Leads (ρ : Rules) (text flags : List ℕ) (ps : List Piece) (start stop : ℕ) (c : Cursor) : Type 0 where
+abbrev pub isBlock : Which → Bool
+isBlock inline = false
+isBlock (block k c) = true
+
+-- a piece, b where it is a block, and the place behind it
+pub record Leads (ρ : Rules) (text flags : List ℕ) (ps : List Piece) (start stop : ℕ) (b : Bool) (c : Cursor) : Type 0 where
   pub which : Which
+  pub is-block : isBlock which ≡ b
   pub is : ps ≡ piece start stop which ∷ remaining ρ text flags c
   pub valid : Valid text c
 
@@ -116,12 +121,12 @@ pub record Same (ρ : Rules) (text flags : List ℕ) (c d : Cursor) : Type 0 whe
   pub within : d .next ≤ length text
 
 abbrev pub TurnTo : Rules → List ℕ → List ℕ → Cursor → Turn → Type 0
-TurnTo ρ text flags c (TurnPiece start stop d) = Leads ρ text flags (fromLine ρ text flags (c .next) (c .line)) start stop d
+TurnTo ρ text flags c (TurnPiece start stop b d) = Leads ρ text flags (fromLine ρ text flags (c .next) (c .line)) start stop b d
 TurnTo ρ text flags c (TurnLine d) = Same ρ text flags c d
 
 -- of the pieces ps
 abbrev pub Goes : Rules → List ℕ → List ℕ → List Piece → Next → Type 0
-Goes ρ text flags ps (NextPiece start stop d) = Leads ρ text flags ps start stop d
+Goes ρ text flags ps (NextPiece start stop b d) = Leads ρ text flags ps start stop b d
 Goes ρ text flags ps NoPiece = ps ≡ []
 
 -- the line in front of which the place is opens a block that ends at stop

@@ -30,21 +30,23 @@ pub(crate) struct Cursor {
     pub closers: Closers,
 }
 
-// The next piece and the place behind it, or none.
+// The next piece, whether it is a block, and the place behind it; or none.
 pub(crate) enum Next {
     Piece {
         start: usize,
         stop: usize,
+        block: bool,
         cursor: Cursor,
     },
     End,
 }
 
-// What a line outside blocks gives: the next piece and the place behind it, or none, and the place to go on from.
+// What a line outside blocks gives: the next piece, whether it is a block, and the place behind it; or none, and the place to go on from.
 pub(crate) enum Turn {
     Piece {
         start: usize,
         stop: usize,
+        block: bool,
         cursor: Cursor,
     },
     Line {
@@ -92,6 +94,7 @@ fn block_line(rules: Rules, bulletin: &[u8], flags: &[u8], cursor: Cursor, stop:
     Turn::Piece {
         start: cursor.next,
         stop,
+        block: true,
         cursor: at_line(next_line(bulletin, end.stop), end.line),
     }
 }
@@ -123,6 +126,7 @@ fn text_line(rules: Rules, bulletin: &[u8], flags: &[u8], cursor: Cursor) -> Tur
         } => Turn::Piece {
             start,
             stop,
+            block: false,
             cursor: Cursor {
                 index: stop,
                 stop: end.stop,
@@ -164,11 +168,13 @@ fn line_piece(rules: Rules, bulletin: &[u8], flags: &[u8], cursor: Cursor) -> Ne
             Turn::Piece {
                 start,
                 stop,
+                block,
                 cursor: behind,
             } => {
                 return Next::Piece {
                     start,
                     stop,
+                    block,
                     cursor: behind,
                 };
             }
@@ -194,6 +200,7 @@ pub(crate) fn next_piece(rules: Rules, bulletin: &[u8], flags: &[u8], cursor: Cu
         } => Next::Piece {
             start,
             stop,
+            block: false,
             cursor: Cursor {
                 index: stop,
                 stop: cursor.stop,

@@ -35,6 +35,7 @@ fn shown_length(rules: Rules, bulletin: &[u8], flags: &[u8]) -> usize
             Next::Piece {
                 start,
                 stop,
+                block: _,
                 cursor: behind,
             } => {
                 size += start - from;
@@ -64,6 +65,7 @@ fn show(rules: Rules, bulletin: &[u8], flags: &[u8], out: &mut [u8]) -> Withheld
             Next::Piece {
                 start,
                 stop,
+                block: _,
                 cursor: behind,
             } => {
                 copy_part(bulletin, from, start, out, size);

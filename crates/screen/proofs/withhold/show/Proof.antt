@@ -32,28 +32,28 @@ copy-part-requires c κs = search needs
 sub-size : tie.Need-sub-size Inv-loop μ-loop
 sub-size c = let a = c .before .before .before .before .before .before .before .before .before .before .before .before .before .before .args in let r = a .rules in let b = a .bulletin .now in let f = a .flags .now in let at = c .before .before .before .before .before .before .before .before .before .loop in
     let l = subst (Goes r b f (remaining r b f (at .cursor))) (c .before .before .before .before .before .start .given .1) (c .before .before .before .before .before .before .before .next-piece .ensures) in
-    from-to r b f (at .cursor) (at .from) (at .size) (at .inv .walking) _ _ _ l .0
+    from-to r b f (at .cursor) (at .from) (at .size) (at .inv .walking) _ _ _ _ l .0
 
 add-size : tie.Need-add-size Inv-loop μ-loop
 add-size c = let a = c .before .before .before .before .before .before .before .before .before .before .before .before .before .before .args in let r = a .rules in let b = a .bulletin .now in let f = a .flags .now in let at = c .before .before .before .before .before .before .before .before .before .loop in
     let l = subst (Goes r b f (remaining r b f (at .cursor))) (c .before .before .before .before .before .start .given .1) (c .before .before .before .before .before .before .before .next-piece .ensures) in
-    let h = size-bound r b f (at .cursor) (at .from) (at .size) (at .inv .walking) _ _ _ l in
+    let h = size-bound r b f (at .cursor) (at .from) (at .size) (at .inv .walking) _ _ _ _ l in
     let s = shown-length r b f in let g = c .before .before .before .before .before .before .before .before .before .before .before .before .before .before .good in search (needs, h, s, g)
 
 add-pieces : tie.Need-add-pieces Inv-loop μ-loop
 add-pieces c = let a = c .before .before .before .before .before .before .before .before .before .before .before .before .before .before .args in let r = a .rules in let b = a .bulletin .now in let f = a .flags .now in let at = c .before .before .before .before .before .before .before .before .before .loop in
     let l = subst (Goes r b f (remaining r b f (at .cursor))) (c .before .before .before .before .before .start .given .1) (c .before .before .before .before .before .before .before .next-piece .ensures) in
-    let h = number-bound r b f (a .out .now) (c .before .before .before .before .before .before .before .before .before .before .before .before .before .before .pre) _ (at .cursor) (at .from) (at .size) (at .pieces) (at .inv) (at .out) _ _ _ l in let g = c .before .before .before .before .before .before .before .before .before .before .before .before .before .before .good in search (needs, h, g)
+    let h = number-bound r b f (a .out .now) (c .before .before .before .before .before .before .before .before .before .before .before .before .before .before .pre) _ (at .cursor) (at .from) (at .size) (at .pieces) (at .inv) (at .out) _ _ _ _ l in let g = c .before .before .before .before .before .before .before .before .before .before .before .before .before .before .good in search (needs, h, g)
 
 loop-less : tie.Need-loop-less Inv-loop μ-loop
 loop-less c = let a = c .before .before .before .before .before .before .before .before .before .before .before .before .before .before .args in let r = a .rules in let b = a .bulletin .now in let f = a .flags .now in let at = c .before .before .before .before .before .before .before .before .before .loop in
     let l = subst (Goes r b f (remaining r b f (at .cursor))) (c .before .before .before .before .before .start .given .1) (c .before .before .before .before .before .before .before .next-piece .ensures) in
-    let h = from-to r b f (at .cursor) (at .from) (at .size) (at .inv .walking) _ _ _ l in omega (arith, h .0, h .1, h .2)
+    let h = from-to r b f (at .cursor) (at .from) (at .size) (at .inv .walking) _ _ _ _ l in omega (arith, h .0, h .1, h .2)
 
 loop-again : tie.Need-loop-again Inv-loop μ-loop
 loop-again c = let a = c .before .before .before .before .before .before .before .before .before .before .before .before .before .before .args in let r = a .rules in let b = a .bulletin .now in let f = a .flags .now in let at = c .before .before .before .before .before .before .before .before .before .loop in
     let l = subst (Goes r b f (remaining r b f (at .cursor))) (c .before .before .before .before .before .start .given .1) (c .before .before .before .before .before .before .before .next-piece .ensures) in
-    showing-on r b f (a .out .now) (c .before .before .before .before .before .before .before .before .before .before .before .before .before .before .pre) _ (at .cursor) (at .from) (at .size) (at .pieces) (at .inv) _ _ _ _ l (c .before .before .copy-part .ensures)
+    showing-on r b f (a .out .now) (c .before .before .before .before .before .before .before .before .before .before .before .before .before .before .pre) _ (at .cursor) (at .from) (at .size) (at .pieces) (at .inv) _ _ _ _ _ l (c .before .before .copy-part .ensures)
 
 enum-told : tie.Need-enum-told Inv-loop μ-loop
 enum-told c = search needs

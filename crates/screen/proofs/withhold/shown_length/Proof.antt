@@ -29,23 +29,23 @@ enum-known-start c = search needs
 sub-size : tie.Need-sub-size Inv-loop μ-loop
 sub-size c = let a = c .before .before .before .before .before .before .before .before .before .args in
     let l = subst (Goes (a .rules) (a .bulletin .now) (a .flags .now) (remaining (a .rules) (a .bulletin .now) (a .flags .now) (c .before .before .before .before .before .loop .cursor))) (c .before .start .given .1) (c .before .before .before .next-piece .ensures) in
-    let b = from-to (a .rules) (a .bulletin .now) (a .flags .now) _ _ _ (c .before .before .before .before .before .loop .inv) _ _ _ l in b .0
+    let b = from-to (a .rules) (a .bulletin .now) (a .flags .now) _ _ _ (c .before .before .before .before .before .loop .inv) _ _ _ _ l in b .0
 
 add-size : tie.Need-add-size Inv-loop μ-loop
 add-size c = let a = c .before .before .before .before .before .before .before .before .before .args in
     let l = subst (Goes (a .rules) (a .bulletin .now) (a .flags .now) (remaining (a .rules) (a .bulletin .now) (a .flags .now) (c .before .before .before .before .before .loop .cursor))) (c .before .start .given .1) (c .before .before .before .next-piece .ensures) in
-    let b = size-bound (a .rules) (a .bulletin .now) (a .flags .now) _ _ _ (c .before .before .before .before .before .loop .inv) _ _ _ l in
+    let b = size-bound (a .rules) (a .bulletin .now) (a .flags .now) _ _ _ (c .before .before .before .before .before .loop .inv) _ _ _ _ l in
     let h = shown-length (a .rules) (a .bulletin .now) (a .flags .now) in search (needs, b, h)
 
 loop-less : tie.Need-loop-less Inv-loop μ-loop
 loop-less c = let a = c .before .before .before .before .before .before .before .before .before .args in
     let l = subst (Goes (a .rules) (a .bulletin .now) (a .flags .now) (remaining (a .rules) (a .bulletin .now) (a .flags .now) (c .before .before .before .before .before .loop .cursor))) (c .before .start .given .1) (c .before .before .before .next-piece .ensures) in
-    let b = from-to (a .rules) (a .bulletin .now) (a .flags .now) _ _ _ (c .before .before .before .before .before .loop .inv) _ _ _ l in omega (arith, b .0, b .1, b .2)
+    let b = from-to (a .rules) (a .bulletin .now) (a .flags .now) _ _ _ (c .before .before .before .before .before .loop .inv) _ _ _ _ l in omega (arith, b .0, b .1, b .2)
 
 loop-again : tie.Need-loop-again Inv-loop μ-loop
 loop-again c = let a = c .before .before .before .before .before .before .before .before .before .args in
     let l = subst (Goes (a .rules) (a .bulletin .now) (a .flags .now) (remaining (a .rules) (a .bulletin .now) (a .flags .now) (c .before .before .before .before .before .loop .cursor))) (c .before .start .given .1) (c .before .before .before .next-piece .ensures) in
-    walking-on (a .rules) (a .bulletin .now) (a .flags .now) _ _ _ (c .before .before .before .before .before .loop .inv) _ _ _ l
+    walking-on (a .rules) (a .bulletin .now) (a .flags .now) _ _ _ (c .before .before .before .before .before .loop .inv) _ _ _ _ l
 
 enum-told : tie.Need-enum-told Inv-loop μ-loop
 enum-told c = search needs
