@@ -8,5 +8,7 @@ pub mod Paragraphs
 pub mod InlineSteps
 pub mod Places
 pub mod Walk
+pub mod Replacing
+pub mod Withholding
 pub mod Answers
 pub mod BothRuns
