@@ -18,7 +18,7 @@ use Rattle.rules.specs.Inline.{lacks, prefix, carrying, keeping, rawHtml, readI
 use Rattle.rules.specs.declared.Rules.{Rules}
 use Rattle.rules.proofs.Comment.{begins-is, comment-is}
 use Rattle.html.proofs.TextMeans.{not-opened, comment-tag, declaration-tag, instruction-tag}
-use Rattle.screen.specs.Closer.{isDeclaration, formOf, isAhead, without, closerOf, Known}
+use Rattle.screen.specs.Closer.{isDeclaration, formOf, isAhead, without, closerOf, allAhead, Known}
 use Rattle.screen.specs.declared.closers.Form.{Form}
 use Rattle.screen.specs.declared.closers.Form.the-variants.{Comment, Instruction, Declaration, Cdata, Other}
 use Rattle.screen.specs.declared.closers.Closers.{Closers}
@@ -52,9 +52,8 @@ abbrev Says : Closers → List ℕ → Form → Type 0
 Says c s f = isAhead c f ≡ false → throughFirst (closerOf f) (drop 1 s) ≡ nothing
 
 -- where a closer of every form may lie ahead, nothing is said
-pub known-all : (c : Closers) → c .comment ≡ true → c .instruction ≡ true → c .declaration ≡ true → c .cdata ≡ true → (s : List ℕ) → Known c s
-known-all c a b d e s =
-    record { none-ahead = each (Says c s) (clash (c .comment) a) (clash (c .instruction) b) (clash (c .declaration) d) (clash (c .cdata) e) (clash true refl) }
+pub known-all : (c : Closers) → c ≡ allAhead → (s : List ℕ) → Known c s
+known-all c e s = rw e (record { none-ahead = each (Says allAhead s) (clash true refl) (clash true refl) (clash true refl) (clash true refl) (clash true refl) })
 
 -- one more form whose closer is not there
 known-without : (c : Closers) (s : List ℕ) → Known c s → (f : Form) → throughFirst (closerOf f) (drop 1 s) ≡ nothing → Known (without c f) s

@@ -5,8 +5,10 @@ use mathlib.Core.Bool.{Bool, true, false}
 use mathlib.Core.List.{List, [], _∷_, _++_}
 use Prim.Native.Nat.{ℕ, zero, suc, _+_, _-_, _<_, _≤_}
 use native.Mathlib.Omega.{arith}
+use lib.Dec.{leb}
 use lib.ListN.{length, getD, take, drop, length-drop, take-append-drop}
 use lib.Seq.{drop-drop, length-take-le}
+use borrow.Author.Tests.{leb-true, leb-false}
 use Rattle.lexical.specs.Text.{run}
 use Rattle.lexical.specs.Name.{all}
 use Rattle.lexical.proofs.Cases.{split, clash}
@@ -81,10 +83,16 @@ module _ (ρ : Rules) where
         ∙ ap (λ s. inlinePieces ρ (length s) (i + length u) s) t
         ∙ ap (λ n. inlinePieces ρ (length (drop j text)) n (drop j text)) l
 
-    pub next-opening : (i j : ℕ) → j ≡ i + run noOpen (drop i text) → i ≤ length text → fromIndex ρ text i ≡ fromIndex ρ text j
-    next-opening i j e a =
+    pub next-opening : (i j : ℕ) → j ≡ i + run noOpen (drop i text) → fromIndex ρ text i ≡ fromIndex ρ text j
+    next-opening i j e =
+        split (leb i (length text))
+        (λ h.
+        let a = leb-true i (length text) h in
         let m : j - i ≡ run noOpen (drop i text) = omega (arith, e) in
-        skipped i j (ap (λ n. all noOpen (take n (drop i text))) m ∙ run-all noOpen (drop i text)) (omega (arith, e)) (omega (arith, e, run-length noOpen (drop i text), length-drop i text))
+        skipped i j (ap (λ n. all noOpen (take n (drop i text))) m ∙ run-all noOpen (drop i text)) (omega (arith, e)) (omega (arith, a, e, run-length noOpen (drop i text), length-drop i text)))
+        (λ h.
+        let a = leb-false i (length text) h in
+        no-pieces i (omega (arith, a)) ∙ sym (no-pieces j (omega (arith, a, e))))
 
     module _ (i : ℕ) (l : i < length text) where
       abbrev x : ℕ
@@ -156,15 +164,13 @@ module _ (ρ : Rules) where
 -- ---- from `<` to `<`: no piece lies between the index and the next `<`
 module _ (ρ : Rules) (text : List ℕ) (index : ℕ) where
   pub record AtOpening (start : ℕ) (c : Closers) : Type 0 where
-    pub within : start ≤ length text
     pub same : fromIndex ρ text index ≡ fromIndex ρ text start
     pub known : Known c (drop start text)
 
-  pub to-opening : (i j : ℕ) (c : Closers) → i ≤ length text → fromIndex ρ text index ≡ fromIndex ρ text i → Known c (drop i text) → j ≡ i + run noOpen (drop i text) → AtOpening j c
-  to-opening i j c l e k o =
+  pub to-opening : (i j : ℕ) (c : Closers) → fromIndex ρ text index ≡ fromIndex ρ text i → Known c (drop i text) → j ≡ i + run noOpen (drop i text) → AtOpening j c
+  to-opening i j c e k o =
       record {
-        within = omega (arith, o, run-length noOpen (drop i text), length-drop i text);
-        same = e ∙ next-opening ρ text i j o l;
+        same = e ∙ next-opening ρ text i j o;
         known = subst (Known c) (drop-drop (run noOpen (drop i text)) i text ∙ ap (λ n. drop n text) (sym o)) (known-drop k (run noOpen (drop i text)));
       }
 
@@ -173,13 +179,12 @@ module _ (ρ : Rules) (text : List ℕ) (index : ℕ) where
     onward stop t =
         let e : start + (stop - start) ≡ stop = omega (arith, t .from) in
         record {
-          to = t .to;
           is = at .same ∙ found-piece ρ text start l stop t;
           known = subst (Known c) (drop-drop (stop - start) start text ∙ ap (λ n. drop n text) e) (known-drop (at .known) (stop - start));
         }
 
     pub past-opening : (d : Closers) → Lacked ρ text start d → (j : ℕ) → j ≡ start + 1 + run noOpen (drop (start + 1) text) → AtOpening j d
-    past-opening d k j o = to-opening (start + 1) j d (omega arith) (at .same ∙ no-piece ρ text start l d k) (k .known) o
+    past-opening d k j o = to-opening (start + 1) j d (at .same ∙ no-piece ρ text start l d k) (k .known) o
 
   pub none-left : (start : ℕ) (c : Closers) → AtOpening start c → length text ≤ start → fromIndex ρ text index ≡ []
   none-left start c at l = at .same ∙ no-pieces ρ text start l

@@ -2,7 +2,7 @@
 use mathlib.Core.Path.{_≡_, refl, sym, _∙_, ap, subst}
 use mathlib.Core.Bool.{Bool, true, false}
 use mathlib.Core.List.{List, [], _∷_, _++_}
-use Prim.Native.Nat.{ℕ, _+_, _-_, _<_, _≤_}
+use Prim.Native.Nat.{ℕ, _+_, _-_, _<_}
 use native.Mathlib.Omega.{arith}
 use lib.Dec.{eqb, ltb}
 use lib.ListN.{length, take, drop}
@@ -16,7 +16,6 @@ use Rattle.lexical.proofs.Cases.{split, clash}
 use Rattle.rules.specs.Block.{kindOf}
 use Rattle.rules.specs.Withhold.{Piece, Which, piece, inline, inlinePieces}
 use Rattle.rules.specs.declared.Rules.{Rules}
-use Rattle.lexical.proofs.Ending.{ending-within}
 use Rattle.rules.proofs.Cut.{lineFrom}
 use Rattle.screen.specs.Closer.{Known, allAhead}
 use Rattle.screen.specs.Remaining.{isPlain, lineAt, fromLine, fromIndex, ParagraphEnd, Onward, atLine, remaining, Valid, isBlock, Leads, Same}
@@ -24,7 +23,7 @@ use Rattle.screen.specs.declared.closers.Closers.{Closers}
 use Rattle.screen.specs.declared.paragraph.End.{End}
 use Rattle.screen.specs.declared.pieces.Cursor.{Cursor}
 use Rattle.screen.proofs.Ahead.{known-all}
-use Rattle.screen.proofs.FromLine.{ending-there, line-ended, line-within}
+use Rattle.screen.proofs.FromLine.{ending-there, line-ended}
 use Rattle.screen.proofs.Paragraphs.{noOpen, plain-closed, plain-length, plain-line, blank-content, drop-take}
 use Rattle.screen.proofs.InlineSteps.{skipped}
 
@@ -61,19 +60,19 @@ module _ (ρ : Rules) (text flags : List ℕ) where
   unfolding remaining inlinePieces
   line-remaining i n = refl
 
-  pub line-valid : (i n : ℕ) → i ≤ length text → Valid text (atLine i n)
-  line-valid i n l = record { within = omega arith; next-within = l; known = known-all allAhead refl refl refl refl (drop 0 (take 0 text)) }
+  pub line-valid : (i n : ℕ) → Valid text (atLine i n)
+  line-valid i n = record { known = known-all allAhead refl (drop 0 (take 0 text)) }
 
   -- ---- a block
   module _ (i n stop : ℕ) (w : Which) (e : End) (next : ℕ) (d : Cursor) (a : next ≡ lineFrom text (e .stop)) (b : d ≡ atLine next (e .line)) where
-    pub leads-block : e .stop ≤ length text → fromLine ρ text flags i n ≡ piece i stop w ∷ fromLine ρ text flags (lineFrom text (e .stop)) (e .line)
+    pub leads-block : fromLine ρ text flags i n ≡ piece i stop w ∷ fromLine ρ text flags (lineFrom text (e .stop)) (e .line)
         → isBlock w ≡ true → Leads ρ text flags (fromLine ρ text flags i n) i stop true d
-    leads-block l h is =
+    leads-block h is =
         record {
           which = w;
           is-block = is;
           is = h ∙ ap (λ t. piece i stop w ∷ fromLine ρ text flags t (e .line)) (sym a) ∙ ap (λ ps. piece i stop w ∷ ps) (sym (ap (remaining ρ text flags) b ∙ line-remaining next (e .line)));
-          valid = subst (Valid text) (sym b) (line-valid next (e .line) (omega (arith, a, ending-within text (e .stop) l)));
+          valid = subst (Valid text) (sym b) (line-valid next (e .line));
         }
 
   -- ---- a line that opens no block
@@ -87,12 +86,10 @@ module _ (ρ : Rules) (text flags : List ℕ) where
         let plain : run isPlain s ≡ lineLength s = plain-length s (λ f. h (ap (λ t. first (drop t text)) is ∙ ap first (sym (drop-drop (run isPlain s) (c .next) text)) ∙ f)) in
         let at : o ≡ c .next + lineLength s = omega (arith, is, plain) in
         let later : c .next < next = omega (arith, line-later text (c .next) l, a ∙ ap (lineFrom text) at) in
-        let in-text : next ≤ length text = omega (arith, a, ending-within text o (omega (arith, at, line-within text (c .next) (omega arith)))) in
         subst (Same ρ text flags c) (sym b)
         (record {
           is = plain-line ρ text flags (c .next) (c .line) m r none o is h ∙ ap (λ t. fromLine ρ text flags t m) (sym a);
           later = later;
-          within = in-text;
         })
 
     -- with `<`
@@ -109,7 +106,7 @@ module _ (ρ : Rules) (text flags : List ℕ) where
       front-length : length front ≡ e .stop
       front-length = ap length front-is ∙ length-take-le (e .stop) text (end .to)
 
-      pub open-within : o < length front
+      open-within : o < length front
       open-within = omega (arith, front-length, is, open-some s opens, end .from)
 
       from-open : fromIndex ρ front (c .next) ≡ fromIndex ρ front o
@@ -129,9 +126,6 @@ module _ (ρ : Rules) (text flags : List ℕ) where
           ∙ ap (λ ps. ps ++ fromLine ρ text flags (lineFrom text (e .stop)) (e .line)) from-open
 
       module _ (next : ℕ) (a : next ≡ lineFrom text (e .stop)) where
-        next-in : next ≤ length text
-        next-in = omega (arith, a, ending-within text (e .stop) (end .to))
-
         pub leads-inline : (start stop : ℕ) (k : Closers) → Onward ρ front o start stop k
             → Leads ρ text flags (fromLine ρ text flags (c .next) (c .line)) start stop false (record { index = stop; stop = e .stop; next = next; line = e .line; closers = k })
         unfolding remaining
@@ -144,7 +138,7 @@ module _ (ρ : Rules) (text flags : List ℕ) where
                   ∙ ap (λ ps. ps ++ fromLine ρ text flags (lineFrom text (e .stop)) (e .line)) (on .is)
                   ∙ ap (λ t. piece start stop inline ∷ (fromIndex ρ t stop ++ fromLine ρ text flags (lineFrom text (e .stop)) (e .line))) front-is
                   ∙ ap (λ t. piece start stop inline ∷ (fromIndex ρ (take (e .stop) text) stop ++ fromLine ρ text flags t (e .line))) (sym a);
-              valid = record { within = subst (λ t. stop ≤ length t) front-is (on .to); next-within = next-in; known = subst (λ t. Known k (drop stop t)) front-is (on .known) };
+              valid = record { known = subst (λ t. Known k (drop stop t)) front-is (on .known) };
             }
 
         pub paragraph-same : (d : Cursor) → d ≡ atLine next (e .line) → fromIndex ρ front o ≡ [] → Same ρ text flags c d
@@ -153,7 +147,6 @@ module _ (ρ : Rules) (text flags : List ℕ) where
             (record {
               is = pieces-from ∙ ap (λ ps. ps ++ fromLine ρ text flags (lineFrom text (e .stop)) (e .line)) none-there ∙ ap (λ t. fromLine ρ text flags t (e .line)) (sym a);
               later = omega (arith, a, open-within, front-length, is);
-              within = next-in;
             })
 
 -- the same pieces by another name
@@ -164,9 +157,6 @@ leads-as e l = record { which = l .which; is-block = l .is-block; is = e ∙ l .
 module _ (ρ : Rules) (text flags : List ℕ) (c : Cursor) (valid : Valid text c) (front : List ℕ) (f : front ≡ take (c .stop - 0) (drop 0 text)) where
   inner-is : front ≡ take (c .stop) text
   inner-is = let z : c .stop - 0 ≡ c .stop = omega arith in f ∙ ap (λ n. take n text) z
-
-  pub inner-within : c .index ≤ length front
-  inner-within = subst (λ t. c .index ≤ length t) (sym inner-is) (valid .within)
 
   pub inner-known : Known (c .closers) (drop (c .index) front)
   inner-known = subst (λ t. Known (c .closers) (drop (c .index) t)) (sym inner-is) (valid .known)
@@ -186,7 +176,7 @@ module _ (ρ : Rules) (text flags : List ℕ) (c : Cursor) (valid : Valid text c
             remaining-is
             ∙ ap (λ ps. ps ++ fromLine ρ text flags (c .next) (c .line)) (on .is)
             ∙ ap (λ t. piece start stop inline ∷ (fromIndex ρ t stop ++ fromLine ρ text flags (c .next) (c .line))) inner-is;
-        valid = record { within = subst (λ t. stop ≤ length t) inner-is (on .to); next-within = valid .next-within; known = subst (λ t. Known k (drop stop t)) inner-is (on .known) };
+        valid = record { known = subst (λ t. Known k (drop stop t)) inner-is (on .known) };
       }
 
   pub paragraph-over : fromIndex ρ front (c .index) ≡ [] → remaining ρ text flags c ≡ fromLine ρ text flags (c .next) (c .line)

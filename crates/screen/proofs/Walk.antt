@@ -77,7 +77,7 @@ module _ (ρ : Rules) (text flags : List ℕ) where
     pub walking-start : Walking (atLine 0 0) 0 0
     walking-start =
         record {
-          valid = line-valid ρ text flags 0 0 (omega arith);
+          valid = line-valid ρ text flags 0 0;
           ordered = subst (Ordered 0 (length text)) (sym from-start) (pieces-ordered ρ text flags);
           sum = let e : length (to-come (atLine 0 0) 0) ≡ length whole = ap (λ ps. length (o .ahead 0 ps)) from-start in omega (arith, e);
         }

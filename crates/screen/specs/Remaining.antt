@@ -83,7 +83,6 @@ Attempt ρ text i (Missing closers) = Lacked ρ text i closers
 
 -- the next piece of a paragraph from an index on
 pub record Onward (ρ : Rules) (text : List ℕ) (i start stop : ℕ) (c : Closers) : Type 0 where
-  pub to : stop ≤ length text
   pub is : fromIndex ρ text i ≡ piece start stop inline ∷ fromIndex ρ text stop
   pub known : Known c (drop stop text)
 
@@ -98,9 +97,8 @@ atLine i n = record { index = 0; stop = 0; next = i; line = n; closers = allAhea
 unfoldable pub remaining : Rules → List ℕ → List ℕ → Cursor → List Piece
 remaining ρ text flags c = fromIndex ρ (take (c .stop) text) (c .index) ++ fromLine ρ text flags (c .next) (c .line)
 
+-- what the place remembers of closers is so in what is left of its paragraph
 pub record Valid (text : List ℕ) (c : Cursor) : Type 0 where
-  pub within : c .index ≤ length (take (c .stop) text)
-  pub next-within : c .next ≤ length text
   pub known : Known (c .closers) (drop (c .index) (take (c .stop) text))
 
 abbrev pub isBlock : Which → Bool
@@ -118,7 +116,6 @@ pub record Leads (ρ : Rules) (text flags : List ℕ) (ps : List Piece) (start s
 pub record Same (ρ : Rules) (text flags : List ℕ) (c d : Cursor) : Type 0 where
   pub is : fromLine ρ text flags (c .next) (c .line) ≡ fromLine ρ text flags (d .next) (d .line)
   pub later : c .next < d .next
-  pub within : d .next ≤ length text
 
 abbrev pub TurnTo : Rules → List ℕ → List ℕ → Cursor → Turn → Type 0
 TurnTo ρ text flags c (TurnPiece start stop b d) = Leads ρ text flags (fromLine ρ text flags (c .next) (c .line)) start stop b d

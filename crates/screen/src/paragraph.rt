@@ -102,8 +102,7 @@ fn next_open(text: &[u8], index: usize) -> usize
 // What begins at an index of a paragraph. It is not read where its closer is known to be missing.
 fn attempt(rules: Rules, text: &[u8], index: usize, closers: Closers) -> Attempted
     requires { ⌜ index < length (now text) ⌝ }
-    requires { ⌜ Known closers (drop index (now text)) ⌝ }
-    ensures { λ r. ⌜ Attempt rules (now (text .entry)) index r ⌝ }
+    ensures { λ r. ⌜ (Known closers (drop index (now (text .entry))) → Attempt rules (now (text .entry)) index r) ⌝ }
 {
     let form = form_at(text, index);
     if !is_ahead(closers, form) {
@@ -123,9 +122,7 @@ fn attempt(rules: Rules, text: &[u8], index: usize, closers: Closers) -> Attempt
 
 // The next piece of a paragraph from an index on. The text ends where the paragraph does.
 pub(crate) fn next_inline(rules: Rules, text: &[u8], index: usize, closers: Closers) -> Inlined
-    requires { ⌜ index ≤ length (now text) ⌝ }
-    requires { ⌜ Known closers (drop index (now text)) ⌝ }
-    ensures { λ r. ⌜ NextInline rules (now (text .entry)) index r ⌝ }
+    ensures { λ r. ⌜ (Known closers (drop index (now (text .entry))) → NextInline rules (now (text .entry)) index r) ⌝ }
 {
     let mut known = closers;
     let mut start = next_open(text, index);

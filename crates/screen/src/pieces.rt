@@ -159,7 +159,6 @@ fn line_turn(rules: Rules, bulletin: &[u8], flags: &[u8], cursor: Cursor) -> Tur
 
 // The next piece from a line on.
 fn line_piece(rules: Rules, bulletin: &[u8], flags: &[u8], cursor: Cursor) -> Next
-    requires { ⌜ cursor .next ≤ length (now bulletin) ⌝ }
     ensures { λ r. ⌜ Goes rules (now (bulletin .entry)) (now (flags .entry)) (fromLine rules (now (bulletin .entry)) (now (flags .entry)) (cursor .next) (cursor .line)) r ⌝ }
 {
     let mut at = cursor;
@@ -186,10 +185,9 @@ fn line_piece(rules: Rules, bulletin: &[u8], flags: &[u8], cursor: Cursor) -> Ne
     Next::End
 }
 
-// The next piece from a place on.
+// The next piece from a place on. Every cursor is taken; where what it remembers of closers is not so, as of another bulletin, a piece may be missed.
 pub(crate) fn next_piece(rules: Rules, bulletin: &[u8], flags: &[u8], cursor: Cursor) -> Next
-    requires { ⌜ Valid (now bulletin) cursor ⌝ }
-    ensures { λ r. ⌜ Goes rules (now (bulletin .entry)) (now (flags .entry)) (remaining rules (now (bulletin .entry)) (now (flags .entry)) cursor) r ⌝ }
+    ensures { λ r. ⌜ (Valid (now (bulletin .entry)) cursor → Goes rules (now (bulletin .entry)) (now (flags .entry)) (remaining rules (now (bulletin .entry)) (now (flags .entry)) cursor) r) ⌝ }
 {
     let text = from_indices(bulletin, 0, cursor.stop);
     match next_inline(rules, text, cursor.index, cursor.closers) {

@@ -15,7 +15,7 @@ is-ahead-requires : tie.Need-is-ahead-requires
 is-ahead-requires c κs = search needs
 
 returns : tie.Need-returns
-returns c = let a = c .before .before .before .before .args in not-read (a .rules) (a .text .now) (a .index) (c .before .before .before .before .pre .0) (a .closers) (c .before .before .before .before .pre .1) (ap (isAhead (a .closers)) (sym (c .before .before .form-at .ensures)) ∙ sym (c .before .is-ahead .ensures) ∙ not-true _ (c .if1 .taken))
+returns c known = let a = c .before .before .before .before .args in not-read (a .rules) (a .text .now) (a .index) (c .before .before .before .before .pre) (a .closers) known (ap (isAhead (a .closers)) (sym (c .before .before .form-at .ensures)) ∙ sym (c .before .is-ahead .ensures) ∙ not-true _ (c .if1 .taken))
 
 inline-at-requires : tie.Need-inline-at-requires
 inline-at-requires c κs = search needs
@@ -33,15 +33,15 @@ enum-told-2 : tie.Need-enum-told-2
 enum-told-2 c = search needs
 
 returns-2 : tie.Need-returns-2
-returns-2 c = let a = c .before .before .before .before .before .before .before .before .args in took (a .rules) (a .text .now) (a .index) (c .before .before .before .before .before .before .before .before .pre .0) _ _ (sym (sym (c .before .before .before .inline-at .ensures) ∙ ap inlineOf (c .before .stop .given .1)))
+returns-2 c known = let a = c .before .before .before .before .before .before .before .before .args in took (a .rules) (a .text .now) (a .index) (c .before .before .before .before .before .before .before .before .pre) _ _ (sym (sym (c .before .before .before .inline-at .ensures) ∙ ap inlineOf (c .before .stop .given .1)))
 
 returns-3 : tie.Need-returns-3
-returns-3 c = let a = c .before .before .before .before .before .before .before .before .args in
+returns-3 c known = let a = c .before .before .before .before .before .before .before .before .args in
     subst (Lacked (a .rules) (a .text .now) (a .index)) (sym (c .without .ensures ∙ ap (without (a .closers)) (c .before .before .before .before .before .before .form-at .ensures)))
-    (lacked (a .rules) (a .text .now) (a .index) (c .before .before .before .before .before .before .before .before .pre .0) (a .closers) _ (sym (sym (c .before .before .before .inline-at .ensures) ∙ ap inlineOf (c .before .enum-told .given .1))) (c .before .before .before .before .before .before .before .before .pre .1))
+    (lacked (a .rules) (a .text .now) (a .index) (c .before .before .before .before .before .before .before .before .pre) (a .closers) _ (sym (sym (c .before .before .before .inline-at .ensures) ∙ ap inlineOf (c .before .enum-told .given .1))) known)
 
 returns-4 : tie.Need-returns-4
-returns-4 c = let a = c .before .before .before .before .before .before .before .args in absurd (none-refused (a .rules) (a .text .now) (a .index) (c .before .before .before .before .before .before .before .pre .0) _ _ (sym (sym (c .before .before .inline-at .ensures) ∙ ap inlineOf (c .enum-told2 .given .1))))
+returns-4 c known = let a = c .before .before .before .before .before .before .before .args in absurd (none-refused (a .rules) (a .text .now) (a .index) (c .before .before .before .before .before .before .before .pre) _ _ (sym (sym (c .before .before .inline-at .ensures) ∙ ap inlineOf (c .enum-told2 .given .1))))
 
 pub attempt-spec : {M : Type 1} → statement M
 attempt-spec =

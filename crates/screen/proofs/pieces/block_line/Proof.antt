@@ -16,7 +16,7 @@ at-line-requires c κs = search needs
 
 returns : tie.Need-returns
 returns c = let a = c .before .before .before .before .before .args in let o = c .before .before .before .before .before .pre .1 in let e = c .before .before .block-end .ensures in
-    leads-block (a .rules) (a .bulletin .now) (a .flags .now) (a .cursor .next) (a .cursor .line) (a .stop) (block (o .kind) (o .closed)) _ _ _ (c .before .next-line .ensures) (c .at-line .ensures) (e .to) (e .pieces (a .rules) (o .kind) (o .closed) (o .is)) refl
+    leads-block (a .rules) (a .bulletin .now) (a .flags .now) (a .cursor .next) (a .cursor .line) (a .stop) (block (o .kind) (o .closed)) _ _ _ (c .before .next-line .ensures) (c .at-line .ensures) (e .pieces (a .rules) (o .kind) (o .closed) (o .is)) refl
 
 pub block-line-spec : {M : Type 1} → statement M
 block-line-spec =

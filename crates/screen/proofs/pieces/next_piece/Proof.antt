@@ -1,6 +1,6 @@
 use mathlib.Core.Path.{sym, subst}
 use Rattle.screen.specs.Remaining.{NextInline, Goes}
-use Rattle.screen.proofs.Places.{inner-within, inner-known, leads-onward, paragraph-over}
+use Rattle.screen.proofs.Places.{inner-known, leads-onward, paragraph-over}
 use borrow.Author.Needs.{needs}
 use Rattle.screen.proofs.pieces.next_piece.Statement.{statement}
 use Rattle.screen.proofs.pieces.next_piece.Tie as tie
@@ -9,7 +9,7 @@ from-indices-requires : tie.Need-from-indices-requires
 from-indices-requires c κs = search needs
 
 next-inline-requires : tie.Need-next-inline-requires
-next-inline-requires c κs = let a = c .before .before .before .args in (inner-within (a .rules) (a .bulletin .now) (a .flags .now) (a .cursor) (c .before .before .before .pre) _ (c .from-indices .ensures), inner-known (a .rules) (a .bulletin .now) (a .flags .now) (a .cursor) (c .before .before .before .pre) _ (c .from-indices .ensures))
+next-inline-requires c κs = search needs
 
 enum-known-start : tie.Need-enum-known-start
 enum-known-start c = search needs
@@ -21,12 +21,14 @@ line-piece-requires : tie.Need-line-piece-requires
 line-piece-requires c κs = search needs
 
 returns : tie.Need-returns
-returns c = let a = c .before .before .before .before .before .before .before .args in leads-onward (a .rules) (a .bulletin .now) (a .flags .now) (a .cursor) (c .before .before .before .before .before .before .before .pre) _ (c .before .before .before .before .from-indices .ensures) _ _ _ (subst (NextInline (a .rules) _ _) (c .before .start .given .1) (c .before .before .before .next-inline .ensures))
+returns c valid = let a = c .before .before .before .before .before .before .before .args in let f = c .before .before .before .before .from-indices .ensures in
+    leads-onward (a .rules) (a .bulletin .now) (a .flags .now) (a .cursor) valid _ f _ _ _
+    (subst (NextInline (a .rules) _ _) (c .before .start .given .1) (c .before .before .before .next-inline .ensures (inner-known (a .rules) (a .bulletin .now) (a .flags .now) (a .cursor) valid _ f)))
 
 returns-2 : tie.Need-returns-2
-returns-2 c = let a = c .before .before .before .before .before .before .before .args in
+returns-2 c valid = let a = c .before .before .before .before .before .before .before .args in let f = c .before .before .before .before .from-indices .ensures in
     subst (λ ps. Goes (a .rules) (a .bulletin .now) (a .flags .now) ps (c .line-piece .result))
-    (sym (paragraph-over (a .rules) (a .bulletin .now) (a .flags .now) (a .cursor) (c .before .before .before .before .before .before .before .pre) _ (c .before .before .before .before .from-indices .ensures) (subst (NextInline (a .rules) _ _) (c .before .enum-told .given .1) (c .before .before .before .next-inline .ensures))))
+    (sym (paragraph-over (a .rules) (a .bulletin .now) (a .flags .now) (a .cursor) valid _ f (subst (NextInline (a .rules) _ _) (c .before .enum-told .given .1) (c .before .before .before .next-inline .ensures (inner-known (a .rules) (a .bulletin .now) (a .flags .now) (a .cursor) valid _ f)))))
     (c .line-piece .ensures)
 
 pub next-piece-spec : {M : Type 1} → statement M

@@ -1,8 +1,7 @@
-use mathlib.Core.Path.{sym, _∙_, ap, subst}
-use native.Mathlib.Omega.{arith}
+use mathlib.Core.Path.{sym, _∙_, subst}
 use Rattle.screen.specs.Remaining.{NextInline}
 use Rattle.screen.proofs.Ahead.{known-all}
-use Rattle.screen.proofs.Places.{plain-same, open-within, leads-inline, paragraph-same}
+use Rattle.screen.proofs.Places.{plain-same, leads-inline, paragraph-same}
 use borrow.Author.Needs.{needs}
 use Rattle.screen.proofs.pieces.text_line.Statement.{statement}
 use Rattle.screen.proofs.pieces.text_line.Tie as tie
@@ -39,9 +38,7 @@ all-ahead-requires : tie.Need-all-ahead-requires
 all-ahead-requires c κs = search needs
 
 next-inline-requires : tie.Need-next-inline-requires
-next-inline-requires c κs = let a = c .before .before .before .before .before .before .before .before .before .args in let pre = c .before .before .before .before .before .before .before .before .before .pre in let k = c .all-ahead .ensures in
-    let l = open-within (a .rules) (a .bulletin .now) (a .flags .now) (a .cursor) (pre .0) (pre .1) _ (c .before .before .before .before .before .before .mark-or-line-end .ensures) (sym (c .before .before .before .before .before .peek .ensures) ∙ c .before .before .before .before .if1 .left) _ (c .before .before .before .paragraph-end .ensures) _ (c .before .from-indices .ensures) in
-    (omega (arith, l), known-all _ (ap (λ m. m .comment) k) (ap (λ m. m .instruction) k) (ap (λ m. m .declaration) k) (ap (λ m. m .cdata) k) _)
+next-inline-requires c κs = search needs
 
 enum-known-start : tie.Need-enum-known-start
 enum-known-start c = search needs
@@ -55,12 +52,12 @@ at-line-requires-2 c κs = search needs
 returns-2 : tie.Need-returns-2
 returns-2 c = let a = c .before .before .before .before .before .before .before .before .before .before .before .before .before .args in let pre = c .before .before .before .before .before .before .before .before .before .before .before .before .before .pre in
     leads-inline (a .rules) (a .bulletin .now) (a .flags .now) (a .cursor) (pre .0) (pre .1) _ (c .before .before .before .before .before .before .before .before .before .before .mark-or-line-end .ensures) (sym (c .before .before .before .before .before .before .before .before .before .peek .ensures) ∙ c .before .before .before .before .before .before .before .before .if1 .left) _ (c .before .before .before .before .before .before .before .paragraph-end .ensures) _ (c .before .before .before .before .before .from-indices .ensures) _ (c .before .before .before .before .before .before .next-line2 .ensures) _ _ _
-    (subst (NextInline (a .rules) _ _) (c .before .start .given .1) (c .before .before .before .next-inline .ensures))
+    (subst (NextInline (a .rules) _ _) (c .before .start .given .1) (c .before .before .before .next-inline .ensures (known-all _ (c .before .before .before .before .all-ahead .ensures) _)))
 
 returns-3 : tie.Need-returns-3
 returns-3 c = let a = c .before .before .before .before .before .before .before .before .before .before .before .before .before .args in let pre = c .before .before .before .before .before .before .before .before .before .before .before .before .before .pre in
     paragraph-same (a .rules) (a .bulletin .now) (a .flags .now) (a .cursor) (pre .0) (pre .1) _ (c .before .before .before .before .before .before .before .before .before .before .mark-or-line-end .ensures) (sym (c .before .before .before .before .before .before .before .before .before .peek .ensures) ∙ c .before .before .before .before .before .before .before .before .if1 .left) _ (c .before .before .before .before .before .before .before .paragraph-end .ensures) _ (c .before .before .before .before .before .from-indices .ensures) _ (c .before .before .before .before .before .before .next-line2 .ensures) _ (c .at-line2 .ensures)
-    (subst (NextInline (a .rules) _ _) (c .before .enum-told .given .1) (c .before .before .before .next-inline .ensures))
+    (subst (NextInline (a .rules) _ _) (c .before .enum-told .given .1) (c .before .before .before .next-inline .ensures (known-all _ (c .before .before .before .before .all-ahead .ensures) _)))
 
 pub text-line-spec : {M : Type 1} → statement M
 text-line-spec =

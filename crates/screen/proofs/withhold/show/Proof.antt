@@ -24,7 +24,7 @@ loop-holds c = let a = c .before .before .before .before .args in let r = a .rul
     subst (λ k. ShownUpTo r b f o o k 0 0 × Counting r b f k 0) (sym (c .at-line .ensures)) (showing-start r b f (output (withholding b)) o, counting-start r b f)
 
 next-piece-requires : tie.Need-next-piece-requires Inv-loop μ-loop
-next-piece-requires c κs = c .before .loop .inv .0 .walking .valid
+next-piece-requires c κs = search needs
 
 enum-known-start : tie.Need-enum-known-start Inv-loop μ-loop
 enum-known-start c = search needs
@@ -34,28 +34,28 @@ copy-part-requires c κs = search needs
 
 sub-size : tie.Need-sub-size Inv-loop μ-loop
 sub-size c = let a = c .before .before .before .before .before .before .before .before .before .before .before .before .before .before .args in let r = a .rules in let b = a .bulletin .now in let f = a .flags .now in let at = c .before .before .before .before .before .before .before .before .before .loop in
-    let l = subst (Goes r b f (remaining r b f (at .cursor))) (c .before .before .before .before .before .start .given .1) (c .before .before .before .before .before .before .before .next-piece .ensures) in
+    let l = subst (Goes r b f (remaining r b f (at .cursor))) (c .before .before .before .before .before .start .given .1) (c .before .before .before .before .before .before .before .next-piece .ensures (at .inv .0 .walking .valid)) in
     from-to r b f (output (withholding b)) (at .cursor) (at .from) (at .size) (at .inv .0 .walking) _ _ _ _ l .0
 
 add-size : tie.Need-add-size Inv-loop μ-loop
 add-size c = let a = c .before .before .before .before .before .before .before .before .before .before .before .before .before .before .args in let r = a .rules in let b = a .bulletin .now in let f = a .flags .now in let at = c .before .before .before .before .before .before .before .before .before .loop in
-    let l = subst (Goes r b f (remaining r b f (at .cursor))) (c .before .before .before .before .before .start .given .1) (c .before .before .before .before .before .before .before .next-piece .ensures) in
+    let l = subst (Goes r b f (remaining r b f (at .cursor))) (c .before .before .before .before .before .start .given .1) (c .before .before .before .before .before .before .before .next-piece .ensures (at .inv .0 .walking .valid)) in
     let h = size-bound r b f (at .cursor) (at .from) (at .size) (at .inv .0 .walking) _ _ _ _ l in
     let s = shown-length r b f in let g = c .before .before .before .before .before .before .before .before .before .before .before .before .before .before .good in search (needs, h, s, g)
 
 add-pieces : tie.Need-add-pieces Inv-loop μ-loop
 add-pieces c = let a = c .before .before .before .before .before .before .before .before .before .before .before .before .before .before .args in let r = a .rules in let b = a .bulletin .now in let f = a .flags .now in let at = c .before .before .before .before .before .before .before .before .before .loop in
-    let l = subst (Goes r b f (remaining r b f (at .cursor))) (c .before .before .before .before .before .start .given .1) (c .before .before .before .before .before .before .before .next-piece .ensures) in
+    let l = subst (Goes r b f (remaining r b f (at .cursor))) (c .before .before .before .before .before .start .given .1) (c .before .before .before .before .before .before .before .next-piece .ensures (at .inv .0 .walking .valid)) in
     let h = number-bound r b f (at .cursor) (at .pieces) (at .inv .1) _ _ _ _ l in let g = c .before .before .before .before .before .before .before .before .before .before .before .before .before .before .good in search (needs, h, g)
 
 loop-less : tie.Need-loop-less Inv-loop μ-loop
 loop-less c = let a = c .before .before .before .before .before .before .before .before .before .before .before .before .before .before .args in let r = a .rules in let b = a .bulletin .now in let f = a .flags .now in let at = c .before .before .before .before .before .before .before .before .before .loop in
-    let l = subst (Goes r b f (remaining r b f (at .cursor))) (c .before .before .before .before .before .start .given .1) (c .before .before .before .before .before .before .before .next-piece .ensures) in
+    let l = subst (Goes r b f (remaining r b f (at .cursor))) (c .before .before .before .before .before .start .given .1) (c .before .before .before .before .before .before .before .next-piece .ensures (at .inv .0 .walking .valid)) in
     let h = from-to r b f (output (withholding b)) (at .cursor) (at .from) (at .size) (at .inv .0 .walking) _ _ _ _ l in omega (arith, h .0, h .1, h .2)
 
 loop-again : tie.Need-loop-again Inv-loop μ-loop
 loop-again c = let a = c .before .before .before .before .before .before .before .before .before .before .before .before .before .before .args in let r = a .rules in let b = a .bulletin .now in let f = a .flags .now in let at = c .before .before .before .before .before .before .before .before .before .loop in
-    let l = subst (Goes r b f (remaining r b f (at .cursor))) (c .before .before .before .before .before .start .given .1) (c .before .before .before .before .before .before .before .next-piece .ensures) in
+    let l = subst (Goes r b f (remaining r b f (at .cursor))) (c .before .before .before .before .before .start .given .1) (c .before .before .before .before .before .before .before .next-piece .ensures (at .inv .0 .walking .valid)) in
     (shown-on r b f (a .out .now) (c .before .before .before .before .before .before .before .before .before .before .before .before .before .before .pre) _ (at .cursor) (at .from) (at .size) (at .inv .0) _ _ _ _ l _ (c .before .before .copy-part .ensures), counting-on r b f (at .cursor) (at .pieces) (at .inv .1) _ _ _ _ l)
 
 enum-told : tie.Need-enum-told Inv-loop μ-loop
@@ -70,7 +70,7 @@ sub-size-2 c = let a = c .before .before .before .before .before .before .before
 
 add-size-2 : tie.Need-add-size-2 Inv-loop μ-loop
 add-size-2 c = let a = c .before .before .before .before .before .before .before .before .before .before .before .before .before .args in let r = a .rules in let b = a .bulletin .now in let f = a .flags .now in let at = c .before .before .before .before .before .before .before .before .loop in
-    let o = subst (Goes r b f (remaining r b f (at .cursor))) (c .before .before .before .before .enum-told .given .1) (c .before .before .before .before .before .before .next-piece .ensures) in
+    let o = subst (Goes r b f (remaining r b f (at .cursor))) (c .before .before .before .before .enum-told .given .1) (c .before .before .before .before .before .before .next-piece .ensures (at .inv .0 .walking .valid)) in
     let h = end-bound r b f (at .cursor) (at .from) (at .size) (at .inv .0 .walking) o in
     let s = shown-length r b f in search (needs, h, s)
 
@@ -79,7 +79,7 @@ loop-less-2 c = let h = c .before .before .before .before .before .before .befor
 
 loop-again-2 : tie.Need-loop-again-2 Inv-loop μ-loop
 loop-again-2 c = let a = c .before .before .before .before .before .before .before .before .before .before .before .before .before .args in let r = a .rules in let b = a .bulletin .now in let f = a .flags .now in let at = c .before .before .before .before .before .before .before .before .loop in
-    let o = subst (Goes r b f (remaining r b f (at .cursor))) (c .before .before .before .before .enum-told .given .1) (c .before .before .before .before .before .before .next-piece .ensures) in
+    let o = subst (Goes r b f (remaining r b f (at .cursor))) (c .before .before .before .before .enum-told .given .1) (c .before .before .before .before .before .before .next-piece .ensures (at .inv .0 .walking .valid)) in
     (shown-end r b f (a .out .now) (c .before .before .before .before .before .before .before .before .before .before .before .before .before .pre) _ (at .cursor) (at .from) (at .size) (at .inv .0) o _ (c .before .before .copy-part2 .ensures), at .inv .1)
 
 same-length : tie.Need-same-length Inv-loop μ-loop
