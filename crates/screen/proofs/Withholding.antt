@@ -1,4 +1,5 @@
--- Withholding has nothing in place of a piece.
+-- Withholding is an output that goes by pieces, with nothing in place of a piece: it shows the bytes in front of each piece and those behind the last. So what the
+-- law of the walk says of any such output holds of its length, its bytes and its count.
 use mathlib.Core.Path.{_≡_, _∙_, ap}
 use mathlib.Core.Bool.{Bool}
 use mathlib.Core.List.{List, [], _∷_}
@@ -11,11 +12,12 @@ use Rattle.lexical.proofs.Stores.{nothing-written}
 use Rattle.rules.specs.Withhold.{Piece, pieces, isWithheld, outside, shown, count, shows}
 use Rattle.rules.specs.declared.Rules.{Rules}
 use Rattle.runs.proofs.Ordered.{outside-none, outside-next}
-use Rattle.screen.specs.Remaining.{remaining, Leads, Shows}
-use Rattle.screen.specs.declared.pieces.Cursor.{Cursor}
+use Rattle.walk.specs.Remaining.{remaining, Leads}
+use Rattle.walk.specs.declared.pieces.Cursor.{Cursor}
+use Rattle.walk.proofs.Walk.{Counting, number-is, Walking, none-remain, size-is, Showing, shows-all}
+use Rattle.walk.proofs.Replacing.{between, Replacing, output, replaced-on, replaced-bound, copied-bound, replaced-shown, copied-shown}
+use Rattle.screen.specs.Shows.{Shows}
 use Rattle.screen.specs.declared.withhold.Withheld.the-variants.{Shown as ShownBytes}
-use Rattle.screen.proofs.Walk.{Counting, number-is, Walking, none-remain, size-is, Showing, shows-all}
-use Rattle.screen.proofs.Replacing.{between, Replacing, output, replaced-on, replaced-bound, copied-bound, replaced-shown, copied-shown}
 
 -- no more bytes are shown than there are
 outside-length : (i : ℕ) (ps : List Piece) (s : List ℕ) → length (outside i ps s) ≤ length s

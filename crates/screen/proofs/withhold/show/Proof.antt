@@ -2,9 +2,9 @@ use mathlib.Core.Path.{sym, subst}
 use Prim.Native.Nat.{_-_}
 use native.Mathlib.Omega.{arith}
 use lib.ListN.{length}
-use Rattle.screen.specs.Remaining.{Goes, remaining}
-use Rattle.screen.proofs.Walk.{Counting, counting-start, counting-on, number-bound, within, from-to, showing-start}
-use Rattle.screen.proofs.Replacing.{output}
+use Rattle.walk.specs.Remaining.{Goes, remaining}
+use Rattle.walk.proofs.Walk.{Counting, counting-start, counting-on, number-bound, within, from-to, showing-start}
+use Rattle.walk.proofs.Replacing.{output}
 use Rattle.screen.proofs.Withholding.{shown-length, withholding, ShownUpTo, size-bound, end-bound, shown-on, shown-end, shows-withheld}
 use borrow.Author.Needs.{needs}
 use Rattle.screen.proofs.withhold.show.Statement.{statement}

@@ -2,9 +2,9 @@ use mathlib.Core.Path.{sym, subst}
 use Prim.Native.Nat.{_-_}
 use native.Mathlib.Omega.{arith}
 use lib.ListN.{length}
-use Rattle.screen.specs.Remaining.{Goes, remaining}
-use Rattle.screen.proofs.Walk.{walking-start, within, from-to}
-use Rattle.screen.proofs.Replacing.{output, copied-end}
+use Rattle.walk.specs.Remaining.{Goes, remaining}
+use Rattle.walk.proofs.Walk.{walking-start, within, from-to}
+use Rattle.walk.proofs.Replacing.{output, copied-end}
 use Rattle.screen.proofs.Withholding.{shown-length, withholding, LengthUpTo, length-on, size-bound, end-bound, length-is}
 use borrow.Author.Needs.{needs}
 use Rattle.screen.proofs.withhold.shown_length.Statement.{statement}
