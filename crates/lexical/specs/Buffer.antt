@@ -1,4 +1,4 @@
--- A buffer before and after bytes are written into it. It need not be believed: no public contract cites it.
+-- A buffer before and after bytes are written into it. It need not be believed: of public contracts only that of `copy_part` cites it.
 use mathlib.Core.Path.{_≡_}
 use Prim.Native.Nat.{ℕ, suc}
 use mathlib.Core.List.{List, [], _∷_}

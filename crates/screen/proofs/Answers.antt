@@ -12,7 +12,7 @@ use Rattle.rules.specs.Withhold.{shown, count, withhold, withholdRefusal, writt
 use Rattle.rules.specs.declared.Rules.{Rules}
 use Rattle.rules.proofs.Refusals.{output-first, output-short, output-fits}
 use Rattle.screen.specs.Answer.{shownOf}
-use Rattle.screen.specs.Remaining.{Shows}
+use Rattle.screen.specs.Shows.{Shows}
 use Rattle.screen.specs.declared.withhold.Withheld.{Withheld}
 use Rattle.screen.specs.declared.withhold.Withheld.the-variants.{Refused}
 

@@ -1,4 +1,3 @@
-pub mod Closer
-pub mod Remaining
 pub mod Answer
 pub mod Both
+pub mod Shows

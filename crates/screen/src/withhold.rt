@@ -6,13 +6,13 @@ ghost use lib.ListN.{length};
 ghost use Rattle.rules.specs.Reading.{crate as ofCrate};
 ghost use Rattle.rules.specs.Withhold.{shown, count, withhold as withholdOf, withholdRefusal, written};
 ghost use Rattle.screen.specs.Answer.{shownOf};
-ghost use Rattle.screen.specs.Remaining.{Shows};
-use crate::copy::copy_part;
-use crate::pieces::Next;
-use crate::pieces::at_line;
-use crate::pieces::next_piece;
+ghost use Rattle.screen.specs.Shows.{Shows};
 use flow::scan::bulletin_refusal;
+use lexical::copy::copy_part;
 use rules::Rules;
+use walk::pieces::Next;
+use walk::pieces::at_line;
+use walk::pieces::next_piece;
 
 // 01, Where each refusal is met.
 const NO_ROOM: u8 = 7;
@@ -35,6 +35,7 @@ fn shown_length(rules: Rules, bulletin: &[u8], flags: &[u8]) -> usize
             Next::Piece {
                 start,
                 stop,
+                block: _,
                 cursor: behind,
             } => {
                 size += start - from;
@@ -64,6 +65,7 @@ fn show(rules: Rules, bulletin: &[u8], flags: &[u8], out: &mut [u8]) -> Withheld
             Next::Piece {
                 start,
                 stop,
+                block: _,
                 cursor: behind,
             } => {
                 copy_part(bulletin, from, start, out, size);

@@ -4,7 +4,7 @@ use lib.Dec.{leb}
 use lib.ListN.{length}
 use Rattle.rules.specs.Withhold.{shown}
 use borrow.Author.Tests.{le-leb}
-use Rattle.screen.proofs.Walk.{shown-length}
+use Rattle.screen.proofs.Withholding.{shown-length}
 use borrow.Author.Needs.{needs}
 use Rattle.screen.proofs.withhold.has_room.Statement.{statement}
 use Rattle.screen.proofs.withhold.has_room.Tie as tie

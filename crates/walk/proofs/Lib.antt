@@ -1,0 +1,11 @@
+pub mod Begins
+pub mod Forms
+pub mod Rest
+pub mod Ahead
+pub mod FromLine
+pub mod BlockLines
+pub mod Paragraphs
+pub mod InlineSteps
+pub mod Places
+pub mod Walk
+pub mod Replacing
