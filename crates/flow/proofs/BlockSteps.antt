@@ -2,13 +2,17 @@
 use mathlib.Core.Path.{_≡_, refl, sym, _∙_, ap}
 use mathlib.Core.Bool.{Bool, true, false, _&&_}
 use mathlib.Core.List.{List, [], _∷_}
-use Prim.Native.Nat.{ℕ, _+_, _-_, _<_, _≤_}
+use Prim.Native.Nat.{ℕ, suc, _+_, _-_, _<_, _≤_}
 use native.Mathlib.Omega.{arith}
-use lib.Dec.{eqb}
+use native.Mathlib.Numerals.{add-one}
+use borrow.Author.Tests.{ltb-false}
+use lib.Dec.{eqb, ltb}
 use lib.ListN.{length, getD, take, drop}
+use Rattle.lexical.specs.Text.{pick}
 use Rattle.lexical.specs.Line.{lineEnding, lineLength}
 use Rattle.lexical.specs.Name.{all}
-use Rattle.lexical.proofs.Suffix.{suffix-in, suffix-out}
+use Rattle.lexical.proofs.Cases.{split}
+use Rattle.lexical.proofs.Suffix.{suffix-in, suffix-out, suffix-next}
 use Rattle.lexical.proofs.Ending.{ending-out}
 use Rattle.rules.specs.Lines.{Line, line, flagged, linesOf}
 use Rattle.rules.specs.Block.{endsBefore, closes, goesOn, kindOf, extentOf, stopAfter}
@@ -22,6 +26,11 @@ use Rattle.flow.specs.declared.html_flow.Kind.the-variants.{Raw, Comment
 use Rattle.flow.specs.BlockMachine.{wentOn, continuationStartOf}
 
 -- ---- flags
+-- the flags from the next line on
+pub next-flags : (s : List ℕ) (n m : ℕ) → m ≡ pick (ltb n (length s)) (suc n) n → drop m s ≡ drop 1 (drop n s)
+next-flags s n m e =
+    rw e (split (ltb n (length s)) (λ h. rw h (rw (suffix-next s n, add-one))) (λ h. let o = suffix-out s n (ltb-false n (length s) h) in rw (h, o)))
+
 -- all flags from an index on
 module _ (f : ℕ → Bool) (s : List ℕ) (i : ℕ) where
   pub all-in : (t : Bool) → i < length s → f (getD s i 0) ≡ t → all f (drop i s) ≡ (t && all f (drop (i + 1) s))

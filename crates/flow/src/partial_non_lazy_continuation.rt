@@ -1,6 +1,9 @@
 // partial_non_lazy_continuation.rs: the flags of lines. A lazy line goes on with no block.
 ghost use mathlib.Core.Path.{_≡_};
-ghost use lib.ListN.{drop, getD};
+ghost use Prim.Native.Nat.{suc};
+ghost use lib.Dec.{ltb};
+ghost use lib.ListN.{length, drop, getD};
+ghost use Rattle.lexical.specs.Text.{pick};
 ghost use Rattle.rules.specs.Lines.{isLazy};
 
 // Whether a line is lazy, by its flag.
@@ -20,9 +23,9 @@ pub(crate) fn flag_at(flags: &[u8], number: usize) -> u8
     0
 }
 
-// The next line with a flag. Past the end all numbers are alike.
+// The number of the next line. Behind the last line with a flag it stays, since there all lines have flag 0.
 pub fn next_number(flags: &[u8], number: usize) -> usize
-    ensures { λ r. ⌜ drop r (now (flags .entry)) ≡ drop 1 (drop number (now (flags .entry))) ⌝ }
+    ensures { λ r. ⌜ r ≡ pick (ltb number (length (now (flags .entry)))) (suc number) number ⌝ }
 {
     if number < flags.len() {
         return number + 1;

@@ -78,7 +78,9 @@ pub fn bulletin_refusal(bulletin: &[u8], flags: &[u8]) -> u8
     0
 }
 
-// The block that the line at an index opens, in any reading, with the line's number. Past the end: none.
+// The block that the line at an index opens, in any reading, with the line's number. Past the end: none. It refuses nothing, and is for callers that go line by
+// line and know the number of each, as withholding does: an index that is a line's first byte, and a flag for each line. Elsewhere it reads on as if a line
+// began at the index, and takes a line without a flag as one with flag 0.
 pub fn block_at(rules: Rules, bulletin: &[u8], flags: &[u8], index: usize, line: usize) -> Block
     ensures { λ r. ⌜ blockAnswerOf r ≡ blockOf rules index (linesOf (drop line (now (flags .entry))) (drop index (now (bulletin .entry)))) ⌝ }
 {

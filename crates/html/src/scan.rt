@@ -101,7 +101,8 @@ pub fn keep(rules: Rules, answer: Inline, carry: u8) -> Inline
     }
 }
 
-// What begins at an index, in any reading and with carry 0. Past the end: none.
+// What begins at an index, in any reading and with carry 0. Past the end: none. It refuses nothing, and is for callers that have a paragraph in hand, as
+// withholding does: a text of any length, without a blank line. Of one with a blank line it says what specs/Tag.antt of rules says, not what the standard does.
 pub fn inline_at(rules: Rules, text: &[u8], index: usize) -> Inline
     ensures { λ r. ⌜ inlineOf r ≡ inlineAt rules (now (text .entry)) index 0 ⌝ }
 {

@@ -42,7 +42,8 @@ abbrev pub fillsLine : Left → Bool
 fillsLine (left s) = isBlank s
 fillsLine nothing = false
 
--- 7: a complete open tag with any name but a raw one, or a complete closing tag, and nothing more; F3: or a raw one
+-- 7: a complete open tag with any name but a raw one, or a complete closing tag, and nothing more; F3: a raw one too, where `/` stands right behind
+-- it (all else that begins with a raw name is kind 1)
 unfoldable pub startsComplete : Rules → List ℕ → Bool
 startsComplete ρ s =
     ((ρ .f3 || not (isRawName (nameOf (drop 1 s)))) && fillsLine (openTag (blockTags ρ) s)) || fillsLine (closingTag s)

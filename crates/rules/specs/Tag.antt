@@ -1,6 +1,7 @@
 -- Open and closing tags, CommonMark 0.31.2, 6.6: one grammar for both scans, with a switch for each change that concerns it. Each definition gives what is
 -- left behind what it names. 'Spaces, tabs, and up to one line ending' is any whitespace here: an inline text has no two line endings with only blanks
--- between (refusal 6), and a line has none.
+-- between (refusal 6), and a line has none. For a text that has, these definitions say more than the standard does: `<a` LF LF `b>` is a tag here. The scan
+-- refuses such a text, and withholding cuts paragraphs, which have none.
 use Prim.Native.Nat.{ℕ, zero, suc}
 use mathlib.Core.Bool.{Bool, true, false, _&&_, not}
 use mathlib.Core.List.{List, [], _∷_}

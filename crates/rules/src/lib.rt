@@ -5,7 +5,7 @@ pub struct Rules {
     pub f1: bool,
     // A kind 7 attribute name may begin with a digit.
     pub f2: bool,
-    // Kind 7 admits the four raw names in closing tags and before a direct `/`.
+    // Kind 7 admits an open tag of a raw name where `/` stands right behind the name. (Closing tags of raw names are admitted without it too.)
     pub f3: bool,
     // A kind 7 unquoted value holds no `/`, and is empty only before `/`.
     pub f4: bool,

@@ -3,7 +3,7 @@ use Prim.Native.Nat.{_-_}
 use lib.ListN.{length}
 use Rattle.flow.specs.Answer.{kindNumber}
 use Rattle.flow.specs.BlockMachine.{continuationStartOf}
-use Rattle.flow.proofs.BlockSteps.{text-over, same-from, line-ends, line-closes, line-on, next-within}
+use Rattle.flow.proofs.BlockSteps.{next-flags, text-over, same-from, line-ends, line-closes, line-on, next-within}
 use borrow.Author.Needs.{needs}
 use Rattle.flow.proofs.html_flow.continuation_start.Statement.{statement}
 use Rattle.flow.proofs.html_flow.continuation_start.Tie as tie
@@ -72,7 +72,7 @@ loop-less c = search needs
 loop-again : tie.Need-loop-again Inv-loop μ-loop
 loop-again c = let a = c .before .before .before .before .before .before .before .before .before .before .before .before .before .args in
     sym (line-on (a .rules) (kindNumber (a .kind)) (a .bulletin .now) (a .flags .now) (c .before .before .before .before .before .before .before .before .before .before .loop .stop) (c .before .before .before .before .before .before .before .before .before .before .loop .number) _ _ _ (c .before .before .before .before .before .before .before .before .continuation-start-non-lazy .ensures) (c .before .before .before .before .before .before .continuation-before .ensures) (c .before .before .before .before .before .flag-at .ensures) (c .before .before .before .before .before .before .before .if1 .left)
-    (sym (c .before .before .before .before .ends-before .ensures) ∙ c .before .before .before .if2 .left) (sym (c .before .before .closes-line .ensures) ∙ c .before .if3 .left) _ (c .next-number .ensures))
+    (sym (c .before .before .before .before .ends-before .ensures) ∙ c .before .before .before .if2 .left) (sym (c .before .before .closes-line .ensures) ∙ c .before .if3 .left) _ (next-flags (a .flags .now) _ _ (c .next-number .ensures)))
     ∙ c .before .before .before .before .before .before .before .before .before .before .loop .inv
 
 continuation-after-requires-4 : tie.Need-continuation-after-requires-4 Inv-loop μ-loop

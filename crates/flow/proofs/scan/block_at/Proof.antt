@@ -17,7 +17,7 @@ use Rattle.rules.specs.declared.Rules.{Rules}
 use Rattle.flow.specs.Answer.{kindNumber, openingNumber}
 use Rattle.rules.proofs.LineLaws.{contentFrom}
 use Rattle.flow.proofs.OpenSteps.{no-kind}
-use Rattle.flow.proofs.BlockSteps.{no-block, first-closes, first-on, has-number}
+use Rattle.flow.proofs.BlockSteps.{next-flags, no-block, first-closes, first-on, has-number}
 use borrow.Author.Needs.{needs}
 use Rattle.flow.proofs.scan.block_at.Statement.{statement}
 use Rattle.flow.proofs.scan.block_at.Tie as tie
@@ -88,7 +88,7 @@ returns-4 : tie.Need-returns-4
 returns-4 c = let a = c .before .before .before .before .before .before .before .before .before .before .before .before .before .before .before .before .args in let k = c .before .before .before .before .before .kind .given .0 .0 in
     c .continuation-start .ensures
     ∙ sym (first-on (a .rules) (a .bulletin .now) (a .flags .now) (a .index) (a .line) _ _ _ (c .before .before .before .before .before .before .before .before .before .before .line-end .ensures) (c .before .before .before .before .before .before .before .before .before .from-indices .ensures) (c .before .before .before .before .before .before .before .before .flag-at .ensures)
-    (kindNumber k) (sym (c .before .before .before .before .before .before .before .start .ensures) ∙ ap openingNumber (c .before .before .before .before .before .kind .given .1)) (has-number k) (sym (c .before .before .before .closes-line .ensures) ∙ c .before .before .if2 .left) _ (c .before .next-number .ensures))
+    (kindNumber k) (sym (c .before .before .before .before .before .before .before .start .ensures) ∙ ap openingNumber (c .before .before .before .before .before .kind .given .1)) (has-number k) (sym (c .before .before .before .closes-line .ensures) ∙ c .before .before .if2 .left) _ (next-flags (a .flags .now) _ _ (c .before .next-number .ensures)))
 
 pub block-at-spec : {M : Type 1} → statement M
 block-at-spec =

@@ -1,6 +1,7 @@
 use mathlib.Core.Path.{sym, _∙_}
 use Prim.Native.Nat.{_+_, _-_}
 use lib.ListN.{length, drop}
+use Rattle.flow.proofs.BlockSteps.{next-flags}
 use Rattle.lexical.specs.Line.{lineLength}
 use Rattle.walk.proofs.Paragraphs.{Along, along-first, along-next, ends-before, ends-with}
 use Rattle.walk.proofs.FromLine.{farther}
@@ -30,7 +31,7 @@ ends-paragraph-requires : tie.Need-ends-paragraph-requires Inv-loop μ-loop
 ends-paragraph-requires c κs = search needs
 
 returns : tie.Need-returns Inv-loop μ-loop
-returns c = let a = c .before .before .before .before .before .before .before .before .before .args in ends-before (a .rules) (a .bulletin .now) (a .flags .now) (a .index) (a .line) _ _ _ (c .before .before .before .before .before .next-number .ensures) (c .before .before .before .before .loop .inv) _ (c .before .before .next-line .ensures) (c .before .before .before .loop-test .taken) (sym (c .before .ends-paragraph .ensures) ∙ c .if1 .taken)
+returns c = let a = c .before .before .before .before .before .before .before .before .before .args in ends-before (a .rules) (a .bulletin .now) (a .flags .now) (a .index) (a .line) _ _ _ (next-flags (a .flags .now) _ _ (c .before .before .before .before .before .next-number .ensures)) (c .before .before .before .before .loop .inv) _ (c .before .before .next-line .ensures) (c .before .before .before .loop-test .taken) (sym (c .before .ends-paragraph .ensures) ∙ c .if1 .taken)
 
 line-end-requires-2 : tie.Need-line-end-requires-2 Inv-loop μ-loop
 line-end-requires-2 c κs = search needs
@@ -43,10 +44,10 @@ loop-less c = let a = c .before .before .before .before .before .before .before 
     let h = farther (a .bulletin .now) (c .before .before .before .before .before .before .loop .stop) _ _ (c .before .before .before .before .next-line .ensures) (c .before .line-end2 .ensures) (c .before .before .before .before .before .before .loop .inv .ended) (c .before .before .before .before .before .loop-test .taken) in search (needs, h)
 
 loop-again : tie.Need-loop-again Inv-loop μ-loop
-loop-again c = let a = c .before .before .before .before .before .before .before .before .before .before .before .args in along-next (a .rules) (a .bulletin .now) (a .flags .now) _ _ _ _ (c .before .before .before .before .before .before .loop .inv) _ _ (c .before .before .before .before .next-line .ensures) (c .before .line-end2 .ensures) (c .before .before .before .before .before .loop-test .taken) _ (c .next-number2 .ensures) (sym (c .before .before .before .ends-paragraph .ensures) ∙ c .before .before .if1 .left)
+loop-again c = let a = c .before .before .before .before .before .before .before .before .before .before .before .args in along-next (a .rules) (a .bulletin .now) (a .flags .now) _ _ _ _ (c .before .before .before .before .before .before .loop .inv) _ _ (c .before .before .before .before .next-line .ensures) (c .before .line-end2 .ensures) (c .before .before .before .before .before .loop-test .taken) _ (next-flags (a .flags .now) _ _ (c .next-number2 .ensures)) (sym (c .before .before .before .ends-paragraph .ensures) ∙ c .before .before .if1 .left)
 
 returns-2 : tie.Need-returns-2 Inv-loop μ-loop
-returns-2 c = let a = c .before .before .before .before .before .before .args in ends-with (a .rules) (a .bulletin .now) (a .flags .now) (a .index) (a .line) _ _ _ (c .before .before .next-number .ensures) (c .before .loop .inv) (c .loop-test .left)
+returns-2 c = let a = c .before .before .before .before .before .before .args in ends-with (a .rules) (a .bulletin .now) (a .flags .now) (a .index) (a .line) _ _ _ (next-flags (a .flags .now) _ _ (c .before .before .next-number .ensures)) (c .before .loop .inv) (c .loop-test .left)
 
 pub paragraph-end-spec : {M : Type 1} → statement M
 paragraph-end-spec =

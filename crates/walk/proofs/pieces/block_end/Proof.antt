@@ -4,6 +4,7 @@ use lib.Dec.{ltb}
 use Prim.Native.Nat.{_+_, _-_}
 use lib.ListN.{length, drop}
 use borrow.Author.Tests.{ltb-true}
+use Rattle.flow.proofs.BlockSteps.{next-flags}
 use Rattle.lexical.specs.Line.{lineLength}
 use Rattle.lexical.proofs.Cases.{and-left, and-right}
 use Rattle.walk.proofs.BlockLines.{Passing, passing-first, passing-next, block-end}
@@ -47,10 +48,10 @@ loop-again : tie.Need-loop-again Inv-loop μ-loop
 loop-again c = let a = c .before .before .before .before .before .before .before .before .before .args in
     let e = c .before .before .before .before .loop .end in
     let t : (ltb e (a .stop) && ltb e (length (a .bulletin .now))) ≡ true = c .before .before .before .loop-test .taken in
-    passing-next (a .bulletin .now) (a .flags .now) (a .stop) _ _ _ _ (c .before .before .before .before .loop .inv) _ _ (c .before .before .next-line .ensures) (c .before .line-end2 .ensures) (ltb-true e (length (a .bulletin .now)) (and-right (ltb e (a .stop)) (ltb e (length (a .bulletin .now))) t)) _ (c .next-number2 .ensures) (ltb-true e (a .stop) (and-left (ltb e (a .stop)) (ltb e (length (a .bulletin .now))) t))
+    passing-next (a .bulletin .now) (a .flags .now) (a .stop) _ _ _ _ (c .before .before .before .before .loop .inv) _ _ (c .before .before .next-line .ensures) (c .before .line-end2 .ensures) (ltb-true e (length (a .bulletin .now)) (and-right (ltb e (a .stop)) (ltb e (length (a .bulletin .now))) t)) _ (next-flags (a .flags .now) _ _ (c .next-number2 .ensures)) (ltb-true e (a .stop) (and-left (ltb e (a .stop)) (ltb e (length (a .bulletin .now))) t))
 
 returns : tie.Need-returns Inv-loop μ-loop
-returns c = let a = c .before .before .before .before .before .before .args in block-end (a .bulletin .now) (a .flags .now) (a .stop) (a .index) (a .line) _ _ _ (c .before .before .next-number .ensures) (c .before .loop .inv) (c .loop-test .left)
+returns c = let a = c .before .before .before .before .before .before .args in block-end (a .bulletin .now) (a .flags .now) (a .stop) (a .index) (a .line) _ _ _ (next-flags (a .flags .now) _ _ (c .before .before .next-number .ensures)) (c .before .loop .inv) (c .loop-test .left)
 
 pub block-end-spec : {M : Type 1} → statement M
 block-end-spec =

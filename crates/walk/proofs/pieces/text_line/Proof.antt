@@ -1,4 +1,5 @@
 use mathlib.Core.Path.{sym, _∙_, subst}
+use Rattle.flow.proofs.BlockSteps.{next-flags}
 use Rattle.walk.specs.Remaining.{NextInline}
 use Rattle.walk.proofs.Ahead.{known-all}
 use Rattle.walk.proofs.Places.{plain-same, leads-inline, paragraph-same}
@@ -23,7 +24,7 @@ at-line-requires c κs = search needs
 
 returns : tie.Need-returns
 returns c = let a = c .before .before .before .before .before .before .before .before .args in let pre = c .before .before .before .before .before .before .before .before .pre in
-    plain-same (a .rules) (a .bulletin .now) (a .flags .now) (a .cursor) (pre .0) (pre .1) _ (c .before .before .before .before .before .mark-or-line-end .ensures) (λ f. c .before .before .before .if1 .taken (c .before .before .before .before .peek .ensures ∙ f)) _ _ _ (c .before .before .next-line .ensures) (c .before .next-number .ensures) (c .at-line .ensures)
+    plain-same (a .rules) (a .bulletin .now) (a .flags .now) (a .cursor) (pre .0) (pre .1) _ (c .before .before .before .before .before .mark-or-line-end .ensures) (λ f. c .before .before .before .if1 .taken (c .before .before .before .before .peek .ensures ∙ f)) _ _ _ (c .before .before .next-line .ensures) (next-flags (a .flags .now) _ _ (c .before .next-number .ensures)) (c .at-line .ensures)
 
 paragraph-end-requires : tie.Need-paragraph-end-requires
 paragraph-end-requires c κs = search needs
