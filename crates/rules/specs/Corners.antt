@@ -9,14 +9,10 @@ use Rattle.lexical.specs.Text.{bytes, limit}
 use Rattle.lexical.specs.Name.{all, sameBytes}
 use Rattle.rules.specs.Reading.{crate}
 use Rattle.rules.specs.Refusal.{refusal, tooLong, inlineRefusal, blockRefusal, bulletinRefusal}
-use Rattle.rules.specs.Scan.{foundInline, noInline, refusedInline, inlineScan, BlockAnswer, foundBlock, noBlock, refusedBlock, blockScan}
+use Rattle.rules.specs.Scan.{foundInline, noInline, refusedInline, inlineScan, found, foundBlock, noBlock, refusedBlock, blockScan}
 use Rattle.rules.specs.Withhold.{shown, Shown, shows, refusedShown, withhold, written}
 use Rattle.rules.specs.Rows.{sameInline, sameBlock, inlineRow, blockRow}
 use Rattle.rules.specs.Computing.{computing}
-
--- a block that is found
-abbrev pub found : ℕ → ℕ → Bool → BlockAnswer
-found kind stop closed = foundBlock kind stop closed
 
 -- two answers of withholding are the same
 abbrev pub sameAnswer : Shown → Shown → Bool
@@ -48,22 +44,22 @@ texts =
 unfoldable pub blocks : List Bool
 blocks =
     -- F1: behind another byte a run of `]` begins anew; an empty one does not close
-    blockRow (bytes "<![CDATA[]x]>") (0 ∷ []) (found 5 13 false)
-    ∷ blockRow (bytes "<![CDATA[>") (0 ∷ []) (found 5 10 false)
+    blockRow (bytes "<![CDATA[]x]>") (0 ∷ []) (foundBlock (found 5 13 false))
+    ∷ blockRow (bytes "<![CDATA[>") (0 ∷ []) (foundBlock (found 5 10 false))
     -- a raw end tag has its `>` right behind the name
-    ∷ blockRow (bytes "<pre>\n</pre x>") (0 ∷ 0 ∷ []) (found 1 14 false)
+    ∷ blockRow (bytes "<pre>\n</pre x>") (0 ∷ 0 ∷ []) (foundBlock (found 1 14 false))
     -- a lazy line ends every kind, also where it may interrupt
-    ∷ blockRow (bytes "<!--\nx") (0 ∷ 1 ∷ []) (found 2 4 false)
-    ∷ blockRow (bytes "<!--\nx") (0 ∷ 3 ∷ []) (found 2 4 false)
-    ∷ blockRow (bytes "<!--\nx") (0 ∷ 2 ∷ []) (found 2 6 false)
+    ∷ blockRow (bytes "<!--\nx") (0 ∷ 1 ∷ []) (foundBlock (found 2 4 false))
+    ∷ blockRow (bytes "<!--\nx") (0 ∷ 3 ∷ []) (foundBlock (found 2 4 false))
+    ∷ blockRow (bytes "<!--\nx") (0 ∷ 2 ∷ []) (foundBlock (found 2 6 false))
     -- a tab ends a name
-    ∷ blockRow (bytes "<div\tx") (0 ∷ []) (found 6 6 false)
-    ∷ blockRow (bytes "<pre\tx") (0 ∷ []) (found 1 6 false)
+    ∷ blockRow (bytes "<div\tx") (0 ∷ []) (foundBlock (found 6 6 false))
+    ∷ blockRow (bytes "<pre\tx") (0 ∷ []) (foundBlock (found 1 6 false))
     -- kind 6 in a closing tag, and before `/>`
-    ∷ blockRow (bytes "</div>x") (0 ∷ []) (found 6 7 false)
-    ∷ blockRow (bytes "<div/>x") (0 ∷ []) (found 6 7 false)
+    ∷ blockRow (bytes "</div>x") (0 ∷ []) (foundBlock (found 6 7 false))
+    ∷ blockRow (bytes "<div/>x") (0 ∷ []) (foundBlock (found 6 7 false))
     -- a line's own flag
-    ∷ sameBlock (blockScan crate (bytes "a\n<a>") (2 ∷ 0 ∷ []) 2) (found 7 5 false)
+    ∷ sameBlock (blockScan crate (bytes "a\n<a>") (2 ∷ 0 ∷ []) 2) (foundBlock (found 7 5 false))
     ∷ []
 
 -- refusals: the first that applies, down the table

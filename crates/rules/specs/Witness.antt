@@ -110,7 +110,7 @@ isFoundInline (noInline k) = false
 isFoundInline (refusedInline n k) = false
 
 abbrev pub isFoundBlock : BlockAnswer → Bool
-isFoundBlock (foundBlock k s c) = true
+isFoundBlock (foundBlock b) = true
 isFoundBlock noBlock = false
 isFoundBlock (refusedBlock n) = false
 
