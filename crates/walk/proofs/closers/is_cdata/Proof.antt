@@ -11,10 +11,10 @@ use Rattle.lexical.specs.Text.{bytes}
 use Rattle.lexical.specs.Name.{cdataPrefix, cdataLetters}
 use Rattle.rules.specs.Search.{begins}
 use Rattle.rules.proofs.Prefix.{cdata-whole, begins-parts}
-use Rattle.screen.proofs.Begins.{begins-fits}
+use Rattle.walk.proofs.Begins.{begins-fits}
 use borrow.Author.Needs.{needs}
-use Rattle.screen.proofs.closers.is_cdata.Statement.{statement}
-use Rattle.screen.proofs.closers.is_cdata.Tie as tie
+use Rattle.walk.proofs.closers.is_cdata.Statement.{statement}
+use Rattle.walk.proofs.closers.is_cdata.Tie as tie
 
 -- `<![` and the prefix behind it
 by-parts : (text : List ℕ) (i : ℕ) (t : Bool) → begins (bytes "<![") (drop i text) ≡ t
