@@ -1,4 +1,5 @@
--- How much of a word is counted where it is compared with a text from a count on: one byte more, or no more. The CDATA prefix is such a word.
+-- How much of a word is counted where it is compared with a text from a count on. At a byte that is alike the count is one more and the comparison goes on
+-- behind it; at another byte, at the end of the text or of the word it stays. The CDATA prefix is such a word, of six bytes.
 use mathlib.Core.Path.{_≡_, refl, sym, _∙_}
 use mathlib.Core.List.{List, [], _∷_}
 use Prim.Native.Nat.{ℕ, suc, _+_, _<_, _≤_}

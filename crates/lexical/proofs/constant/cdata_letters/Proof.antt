@@ -1,4 +1,5 @@
--- The invariant: the letters counted from here on are those counted from the carry on.
+-- The invariant: the letters counted from here on are those counted from the carry on. A turn that goes on counts the letter that is alike; one that stops, and
+-- the end of the prefix, count no more.
 use mathlib.Core.Path.{_≡_, refl, sym, _∙_, ap}
 use mathlib.Core.List.{List}
 use Prim.Native.Nat.{ℕ, _-_}

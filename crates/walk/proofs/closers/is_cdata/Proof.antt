@@ -1,3 +1,4 @@
+-- The opening has two parts, `<![` and the prefix; the second is looked for behind the first.
 use mathlib.Core.Path.{_≡_, sym, _∙_, ap}
 use mathlib.Core.Bool.{Bool, true, false, _&&_}
 use mathlib.Core.List.{List}
