@@ -5,14 +5,14 @@
 #
 # PREFIX is /usr/local where none is given. Where DESTDIR is set, all goes under that folder, to be moved to PREFIX later: foringamo.pc names PREFIX alone.
 #
-#     bin/withhold                              (and libexec/foringamo/withhold, where scripts/withhold stands before it)
+#     bin/withhold                              (which runs libexec/foringamo/withhold; beside that VERSION)
 #     include/foringamo.h
 #     lib/libforingamo.a, lib/libforingamo.so   (which links to the shared library of this version)
 #     lib/pkgconfig/foringamo.pc
 #     share/man/man1/withhold.1, share/man/man3/foringamo.3   (and a page for each function, which names the latter)
 #     share/doc/foringamo/NOTICE
 #
-# What is not built yet is built first, by scripts/build.sh. The shared library needs cc; where there is none, a line says that it is left out.
+# What is not built yet, or is older than its sources, is built first, by scripts/archive.sh and withhold.sh. The shared library needs cc; where there is none, a line says that it is left out.
 set -eu
 
 usage='usage: ./install.sh [PREFIX]'
@@ -55,8 +55,9 @@ version=$(cat VERSION)
 # The interface's number, the version's first two: callers that are linked already go on with a library that has the same.
 interface=${version%.*}
 
-scripts/build.sh archive
-scripts/build.sh program
+scripts/archive.sh
+# An empty bulletin, for which it builds the program.
+./withhold.sh </dev/null
 
 work=$(mktemp -d)
 trap 'rm -rf "$work"' EXIT
@@ -68,13 +69,10 @@ put() {
 }
 
 put_program() {
-    if [ -f scripts/withhold ]; then
-        # It looks for the program in ../libexec/foringamo, from its own folder.
-        put 755 target/bin/withhold libexec/foringamo/withhold
-        put 755 scripts/withhold bin/withhold
-    else
-        put 755 target/bin/withhold bin/withhold
-    fi
+    # It looks for the program and the version in ../libexec/foringamo, from its own folder.
+    put 755 scripts/withhold bin/withhold
+    put 755 target/bin/withhold libexec/foringamo/withhold
+    put 644 VERSION libexec/foringamo/VERSION
 }
 
 put_shared_library() {

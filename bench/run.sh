@@ -3,7 +3,7 @@
 #
 #     bench/run.sh
 #
-# It needs rustc and cc, and target/staticlib/libforingamo.a, which scripts/build.sh builds where it is not there or is older than its sources. Where the Rust crate's
+# It needs rustc and cc, and target/staticlib/libforingamo.a, which scripts/archive.sh builds where it is not there or is older than its sources. Where the Rust crate's
 # sources are not in $FORINGAMO_RUST_SOURCES, or where that is not set in ../shared/docs/src, the library is measured alone.
 cd "$(dirname "$0")/.." || exit 1
 archive=target/staticlib/libforingamo.a
@@ -14,7 +14,7 @@ command -v rustc >/dev/null || {
     exit 1
 }
 mkdir -p "$built" || exit 1
-scripts/build.sh archive >&2 || exit 1
+scripts/archive.sh >&2 || exit 1
 
 options=(--edition 2021 -O -C codegen-units=1 -D warnings)
 with=(--check-cfg 'cfg(reference)')

@@ -3,7 +3,7 @@
 #
 #     tests/commonmark.sh
 #
-# It links target/staticlib/libforingamo.a, which scripts/build.sh builds where it is not there or is older than its sources; a line says so. Where there is no cc, a
+# It links target/staticlib/libforingamo.a, which scripts/archive.sh builds where it is not there or is older than its sources; a line says so. Where there is no cc, a
 # line says what is left out. A line for each check that fails, then how many examples were run; the last line is 'N passed, M failed'.
 cd "$(dirname "$0")/.." || exit 1
 archive=target/staticlib/libforingamo.a
@@ -17,7 +17,7 @@ ends() {
 }
 
 mkdir -p "$built" || exit 1
-if ! scripts/build.sh archive 2>&1; then
+if ! scripts/archive.sh 2>&1; then
     echo "there is no $archive of these sources to link"
     ends 0 1
 fi

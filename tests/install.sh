@@ -3,7 +3,7 @@
 #
 #     tests/install.sh
 #
-# What is not built yet, or is older than its sources, is built by scripts/build.sh; a line says so. Where cc, pkg-config, python3, cargo, nm, readelf or groff is
+# What is not built yet, or is older than its sources, is built by scripts/archive.sh and withhold.sh; a line says so. Where cc, pkg-config, python3, cargo, nm, readelf or groff is
 # not there, a line says what is left out. A line for each check that fails; the last line is 'N passed, M failed'.
 cd "$(dirname "$0")/.." || exit 1
 unset DESTDIR PKG_CONFIG_PATH PKG_CONFIG_LIBDIR PKG_CONFIG_SYSROOT_DIR LD_LIBRARY_PATH
@@ -70,7 +70,8 @@ functions() {
 expected_files() {
     {
         echo bin/withhold
-        [ ! -f scripts/withhold ] || echo libexec/foringamo/withhold
+        echo libexec/foringamo/VERSION
+        echo libexec/foringamo/withhold
         echo include/foringamo.h
         echo lib/libforingamo.a
         if there cc; then
@@ -266,7 +267,7 @@ in_rust() {
     fi
 }
 
-if ! scripts/build.sh archive 2>&1 || ! scripts/build.sh program 2>&1; then
+if ! scripts/archive.sh 2>&1 || ! ./withhold.sh </dev/null 2>&1; then
     fails 'there is nothing to install'
 else
     installs "$plain" ./install.sh "$plain"
@@ -287,6 +288,10 @@ else
     places
     manual
     shows bin/withhold "$plain/bin/withhold"
+    same 'bin/withhold --version' "$("$plain/bin/withhold" --version)" "withhold $version"
+    head -c 16001 /dev/zero >"$folder/long"
+    "$plain/bin/withhold" <"$folder/long" >/dev/null 2>&1
+    same 'the status of bin/withhold for 16,001 bytes' "$?" 1
     shows 'bin/withhold under DESTDIR' "$staged/bin/withhold"
     in_c
     shared_library

@@ -4,7 +4,7 @@
 #
 #     tests/interface.sh
 #
-# It links target/staticlib/libforingamo.a, which scripts/build.sh builds where it is not there or is older than its sources; a line says so. Where there is no cc, no
+# It links target/staticlib/libforingamo.a, which scripts/archive.sh builds where it is not there or is older than its sources; a line says so. Where there is no cc, no
 # rustc or no cargo, a line says what is left out. A line for each check that fails; the last line is 'N passed, M failed'.
 cd "$(dirname "$0")/.." || exit 1
 archive=target/staticlib/libforingamo.a
@@ -139,7 +139,7 @@ in_rust() {
 }
 
 mkdir -p "$built" || exit 1
-if ! scripts/build.sh archive 2>&1; then
+if ! scripts/archive.sh 2>&1; then
     fails "there is no $archive of these sources to link"
 elif ! command -v cc >/dev/null; then
     # Rust's programs are linked by it too.

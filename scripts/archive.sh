@@ -1,30 +1,15 @@
 #!/usr/bin/env bash
-# Builds the archive or the program where it is not there or is older than its sources, and says so.
+# Builds the archive target/staticlib/libforingamo.a where it is not there or is older than its sources, by `rt staticlib foringamo`, which proves what it builds,
+# and says so. (The program is built by withhold.sh.)
 #
-#     scripts/build.sh archive|program
+#     scripts/archive.sh
 #
-# The archive is target/staticlib/libforingamo.a, by `rt staticlib foringamo`; the program is target/bin/withhold, by `rt check withhold`. Both prove what they
-# build. What rt says goes to a file under target/build. Where there is no rt, an older file stays as it is, and a line says so. It ends with status 0 where the
-# file is there.
+# What rt says goes to a file under target/. Where there is no rt, an older archive stays as it is, and a line says so. It ends with status 0 where the archive is
+# there.
 cd "$(dirname "$0")/.." || exit 1
 
-case ${1:-} in
-archive)
-    file=target/staticlib/libforingamo.a
-    crate=foringamo
-    command=(rt staticlib foringamo)
-    ;;
-program)
-    file=target/bin/withhold
-    crate=withhold
-    command=(rt check withhold)
-    ;;
-*)
-    echo 'usage: scripts/build.sh archive|program' >&2
-    exit 2
-    ;;
-esac
-log=target/build/$1.log
+file=target/staticlib/libforingamo.a
+log=target/staticlib/build.log
 
 # sources CRATE: crates.txt, and the code of the crate and of all that it depends on.
 sources() {
@@ -43,7 +28,7 @@ sources() {
 }
 
 if [ -f "$file" ]; then
-    mapfile -t from < <(sources "$crate")
+    mapfile -t from < <(sources foringamo)
     newer=$(find "${from[@]}" -newer "$file" -print -quit)
     [ -n "$newer" ] || exit 0
     why="$file is older than $newer"
@@ -60,9 +45,9 @@ if ! command -v rt >/dev/null; then
     exit 1
 fi
 
-echo "$why: \`${command[*]}\` builds it, some minutes where nothing is proved yet; what it says goes to $log"
+echo "$why: \`rt staticlib foringamo\` builds it, some minutes where nothing is proved yet; what it says goes to $log"
 mkdir -p "$(dirname "$log")" || exit 1
-if ! "${command[@]}" </dev/null >"$log" 2>&1 || [ ! -f "$file" ]; then
+if ! rt staticlib foringamo </dev/null >"$log" 2>&1 || [ ! -f "$file" ]; then
     echo "rt did not build $file: $log" >&2
     exit 1
 fi
