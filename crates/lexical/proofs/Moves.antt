@@ -9,23 +9,22 @@ use borrow.Author.Tests.{ltb-true, ltb-false}
 use lib.ListN.{length, getD, drop}
 use Rattle.lexical.specs.Text.{byte, pick, first}
 use Rattle.lexical.specs.Line.{endsLine}
-use Rattle.lexical.specs.Point.{tabReadings, tabRead, actionAt, nextLine, nextByte, skipByte, passed, movedBy, start, pointAt}
+use Rattle.lexical.specs.Point.{tabReadings, tabRead, lastReading, earlierReading, skipped, noByte, actionAt, nextLine, nextByte, skipByte, passed, movedBy, start, pointAt}
 use Rattle.lexical.specs.declared.event.Point.{Point}
-use Rattle.lexical.specs.declared.tokenizer.ByteAction.the-variants.{Normal, Ignore, Insert, End}
 use Rattle.lexical.proofs.Cases.{split}
 use Rattle.lexical.proofs.Suffix.{suffix-in, suffix-out}
 
 module _ (p : Point) (s : List ℕ) (i : ℕ) where
   pub action-in : i < length s
       → actionAt p (drop i s)
-      ≡ pick (eqb (getD s i 0) (byte "\r")) (pick (eqb (first (drop (i + 1) s)) (byte "\n")) Ignore (Normal (byte "\n")))
+      ≡ pick (eqb (getD s i 0) (byte "\r")) (pick (eqb (first (drop (i + 1) s)) (byte "\n")) skipped (lastReading (byte "\n")))
       (pick (eqb (getD s i 0) (byte "\t"))
-      (pick (eqb (tabReadings (p .column)) 1) (Normal (tabRead (p .vs))) (Insert (tabRead (p .vs))))
-      (Normal (getD s i 0)))
+      (pick (eqb (tabReadings (p .column)) 1) (lastReading (tabRead (p .vs))) (earlierReading (tabRead (p .vs))))
+      (lastReading (getD s i 0)))
   unfolding actionAt
   action-in h = rw (suffix-in s i h)
 
-  pub action-out : length s ≤ i → actionAt p (drop i s) ≡ End
+  pub action-out : length s ≤ i → actionAt p (drop i s) ≡ noByte
   unfolding actionAt
   action-out h = rw (suffix-out s i h)
 

@@ -26,14 +26,28 @@ tabReadings c = 4 - (c - 1) % 4
 unfoldable pub tabRead : ℕ → ℕ
 tabRead vs = pick (eqb vs 0) (byte "\t") (byte " ")
 
--- 01: CR before LF is skipped, a lone CR reads as LF; the last reading of a byte is normal, the others of a tab are inserted
-unfoldable pub actionAt : Point → List ℕ → ByteAction
-actionAt p [] = End
+-- what becomes of the byte at a point: its last reading, with what is read; an earlier one, after which others follow; it is skipped; there is none
+pub data Action : Type 0 where
+  lastReading : ℕ → Action
+  earlierReading : ℕ → Action
+  skipped : Action
+  noByte : Action
+
+-- by the cases of the code's answer
+abbrev pub actionOf : ByteAction → Action
+actionOf (Normal b) = lastReading b
+actionOf Ignore = skipped
+actionOf (Insert b) = earlierReading b
+actionOf End = noByte
+
+-- 01: CR before LF is skipped, a lone CR reads as LF; a tab has as many readings as are left to the next stop
+unfoldable pub actionAt : Point → List ℕ → Action
+actionAt p [] = noByte
 actionAt p (x ∷ xs) =
-    pick (eqb x (byte "\r")) (pick (eqb (first xs) (byte "\n")) Ignore (Normal (byte "\n")))
+    pick (eqb x (byte "\r")) (pick (eqb (first xs) (byte "\n")) skipped (lastReading (byte "\n")))
     (pick (eqb x (byte "\t"))
-    (pick (eqb (tabReadings (p .column)) 1) (Normal (tabRead (p .vs))) (Insert (tabRead (p .vs))))
-    (Normal x))
+    (pick (eqb (tabReadings (p .column)) 1) (lastReading (tabRead (p .vs))) (earlierReading (tabRead (p .vs))))
+    (lastReading x))
 
 -- past a line ending
 abbrev pub nextLine : Point → Point
@@ -52,11 +66,11 @@ abbrev pub nextReading : Point → Point
 nextReading p = point (p .line) (plus (p .column) 1) (p .index) (plus (p .vs) 1)
 
 -- one reading further
-unfoldable pub moved : Point → ByteAction → Point
-moved p (Normal b) = pick (eqb b (byte "\n")) (nextLine p) (nextByte p 1)
-moved p Ignore = skipByte p
-moved p (Insert b) = nextReading p
-moved p End = p
+unfoldable pub moved : Point → Action → Point
+moved p (lastReading b) = pick (eqb b (byte "\n")) (nextLine p) (nextByte p 1)
+moved p (earlierReading b) = nextReading p
+moved p skipped = skipByte p
+moved p noByte = p
 
 -- n readings further at the same byte
 unfoldable pub readOn : ℕ → Point → List ℕ → Point

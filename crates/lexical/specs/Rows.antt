@@ -7,17 +7,15 @@ use lib.Dec.{eqb}
 use Rattle.lexical.specs.Text.{bytes, run}
 use Rattle.lexical.specs.Line.{lineEnding, endsLine, lineEndings, lines, isBlank}
 use Rattle.lexical.specs.Name.{all, blockNames, rawNames, sameBytes, isMember, isBlockName, isRawName}
-use Rattle.lexical.specs.Point.{point, tabReadings, tabRead, actionAt, moved}
+use Rattle.lexical.specs.Point.{point, tabReadings, tabRead, Action, lastReading, earlierReading, skipped, noByte, actionAt, moved}
 use Rattle.lexical.specs.declared.event.Point.{Point}
-use Rattle.lexical.specs.declared.tokenizer.ByteAction.{ByteAction}
-use Rattle.lexical.specs.declared.tokenizer.ByteAction.the-variants.{Normal, Ignore, Insert, End}
 
 -- what an action reads, and what is read after it at the same byte
-abbrev pub reading : ByteAction → List ℕ → List ℕ
-reading (Normal b) more = b ∷ []
-reading Ignore more = []
-reading (Insert b) more = b ∷ more
-reading End more = []
+abbrev pub reading : Action → List ℕ → List ℕ
+reading (lastReading b) more = b ∷ []
+reading (earlierReading b) more = b ∷ more
+reading skipped more = []
+reading noByte more = []
 
 -- what the first byte of s is read as, in at most n readings
 abbrev pub reads : ℕ → Point → List ℕ → List ℕ

@@ -2,7 +2,7 @@
 ghost use mathlib.Core.Path.{_≡_};
 ghost use Prim.Native.Nat.{_-_, _<_};
 ghost use lib.ListN.{length, drop};
-ghost use Rattle.lexical.specs.Point.{tabReadings, tabRead, actionAt, nextLine, nextByte, skipByte, nextReading, moved, passed, movedBy};
+ghost use Rattle.lexical.specs.Point.{tabReadings, tabRead, actionOf, actionAt, nextLine, nextByte, skipByte, nextReading, moved, passed, movedBy};
 use crate::byte::peek;
 use crate::constant::TAB_SIZE;
 use crate::event::Point;
@@ -41,7 +41,7 @@ fn tab_read(vs: usize) -> u8
 impl Point {
     // How to handle the byte at the point.
     pub fn byte_action(self, bytes: &[u8]) -> ByteAction
-        ensures { λ r. ⌜ r ≡ actionAt self (drop (self .index) (now (bytes .entry))) ⌝ }
+        ensures { λ r. ⌜ actionOf r ≡ actionAt self (drop (self .index) (now (bytes .entry))) ⌝ }
     {
         let index = self.index;
         if index >= bytes.len() {
