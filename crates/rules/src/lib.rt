@@ -1,5 +1,8 @@
 // Which of the eight changes to CommonMark 0.31.2 a reading makes. All on is the reading of the Rust crate; all off is the standard to the letter.
 // The definitions of the readings are in specs/.
+ghost use mathlib.Core.Path.{_≡_};
+ghost use Rattle.rules.specs.Reading.{crate as ofCrate};
+
 pub struct Rules {
     // Kind 5 closes at a maximal, even, nonempty run of `]` before `>`.
     pub f1: bool,
@@ -17,4 +20,20 @@ pub struct Rules {
     pub t1: bool,
     // The CDATA prefix is compared from the carry.
     pub t2: bool,
+}
+
+// The reading of the Rust crate: all eight changes are made.
+pub fn crate_rules() -> Rules
+    ensures { λ r. ⌜ r ≡ ofCrate ⌝ }
+{
+    Rules {
+        f1: true,
+        f2: true,
+        f3: true,
+        f4: true,
+        f5: true,
+        f6: true,
+        t1: true,
+        t2: true,
+    }
 }
