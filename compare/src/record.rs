@@ -8,7 +8,7 @@
 //! has reached, or has an answer of a new shape; in the end those that the others
 //! make needless are dropped. Refusals are kept where a new set of 01's
 //! conditions applies. What is covered is told. The form of a case and of an
-//! answer stands in crates/recorded/src/main.rt.
+//! answer stands in crates/cases/src/run.rt.
 
 #[allow(dead_code)]
 mod families;
@@ -34,6 +34,14 @@ const TRIES: usize = 400_000;
 /// The longest text, and the longest trace, of a case.
 const LENGTHS: [usize; 7] = [4, 6, 9, 12, 18, 26, 40];
 const TRACE: usize = 500;
+
+/// The letters of a scan with its trace, of one over a long text, and of a
+/// record: those of crates/cases/src/run.rt. A long one is the capital.
+const INLINE: char = 's';
+const LONG_INLINE: char = 'S';
+const BLOCK: char = 'l';
+const LONG_BLOCK: char = 'L';
+const RECORD: char = 'e';
 
 /// What a buffer holds before.
 const OLD: &str = "ee";
@@ -150,7 +158,7 @@ impl Recorder {
                 format!("none {}", answer.carry)
             };
             (
-                format!("i{index:04x}{carry:02x}{room:04x}{}", to_hex(text)),
+                format!("{INLINE}{index:04x}01{room:04x}{carry:02x}{}", to_hex(text)),
                 format!("{said} {traced}"),
             )
         });
@@ -196,7 +204,7 @@ impl Recorder {
             let count = flags.len();
             (
                 format!(
-                    "b{index:04x}{count:02x}{room:04x}{}{}",
+                    "{BLOCK}{index:04x}{count:02x}{room:04x}{}{}",
                     to_hex(flags),
                     to_hex(text)
                 ),
@@ -298,9 +306,9 @@ impl Recorder {
         ];
         let features = vec![feature(("refused inline", refusal, conditions))];
         self.keep(features, |_| {
-            let letter = if long { 'I' } else { 'i' };
+            let letter = if long { LONG_INLINE } else { INLINE };
             (
-                format!("{letter}{index:04x}{carry:02x}0004{form}"),
+                format!("{letter}{index:04x}010004{carry:02x}{form}"),
                 format!(
                     "refused {refusal} {carry} refused {refusal} {}",
                     OLD.repeat(4)
@@ -326,7 +334,7 @@ impl Recorder {
         ];
         let features = vec![feature(("refused block", refusal, conditions))];
         self.keep(features, |_| {
-            let letter = if long { 'B' } else { 'b' };
+            let letter = if long { LONG_BLOCK } else { BLOCK };
             let count = flags.len();
             (
                 format!("{letter}{index:04x}{count:02x}0004{}{form}", to_hex(flags)),
@@ -374,7 +382,7 @@ impl Recorder {
                         }
                     }
                 };
-                (format!("r{number:02x}{}", to_hex(&trace)), said)
+                (format!("{RECORD}{number:04x}000000{}", to_hex(&trace)), said)
             });
         }
     }
@@ -457,9 +465,9 @@ fn main() -> ExitCode {
     println!(
         "{} cases ({found} before thinning): {} inline, {} block, {} records, of {scans} scans tried",
         recorder.kept.len(),
-        kinds[&'i'],
-        kinds[&'b'],
-        kinds[&'r']
+        kinds[&INLINE],
+        kinds[&BLOCK],
+        kinds[&RECORD]
     );
     for (file, range) in [
         ("html_flow.rs", flow_states()),

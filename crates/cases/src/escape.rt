@@ -1,44 +1,48 @@
 // Cases in text: numbers in decimal digits, and a text in which `\n`, `\r`, `\t` and `\\` are LF, CR, tab and backslash.
-ghost use Prim.Native.Nat.{_≤_};
-use lexical::byte::peek;
+ghost use Prim.Native.Nat.{_≤_, _<_};
+ghost use lib.ListN.{length};
+use crate::hex::byte_at;
+use crate::hex::digit;
+use lexical::byte::is_digit;
 
-// What a digit stands for. Any other byte: 0.
-pub fn digit(b: u8) -> u8
-    ensures { λ r. ⌜ r ≤ 9 ⌝ }
+// How many flags a case has at most.
+pub const FLAGS: usize = 64;
+
+// What the digit at an index stands for.
+fn digit_at(digits: &[u8], index: usize) -> usize
+    ensures { λ r. ⌜ r < 16 ⌝ }
 {
-    if b < b'0' {
-        return 0;
-    }
-    if b > b'9' {
-        return 0;
-    }
-    b - b'0'
+    digit(byte_at(digits, index)) as usize
 }
 
 // The index of a case: three digits behind a letter and a space.
 pub fn index_of(line: &[u8]) -> usize {
-    if line.len() < 5 {
-        return 0;
-    }
-    digit(line[2]) as usize * 100 + digit(line[3]) as usize * 10 + digit(line[4]) as usize
+    digit_at(line, 2) * 100 + digit_at(line, 3) * 10 + digit_at(line, 4)
 }
 
-// Writes the flags of a case, from an index on, and gives the index behind them.
-pub fn flags_end(line: &[u8], from: usize, out: &mut [u8]) -> usize
-    ensures { λ r. ⌜ from ≤ r ⌝ }
+// What the five digits at the front stand for.
+pub fn number(digits: &[u8]) -> usize {
+    digit_at(digits, 0) * 10000
+        + digit_at(digits, 1) * 1000
+        + digit_at(digits, 2) * 100
+        + digit_at(digits, 3) * 10
+        + digit_at(digits, 4)
+}
+
+// Writes the flags that a text begins with, one digit each, and gives their number.
+pub fn flags_of(digits: &[u8], out: &mut [u8]) -> usize
+    ensures { λ r. ⌜ r ≤ length (now (out .entry)) ⌝ }
 {
-    let mut i: usize = from;
-    while i < line.len() {
-        if line[i] == b' ' {
-            return i;
+    let mut n: usize = 0;
+    while n < out.len() {
+        let b = byte_at(digits, n);
+        if !is_digit(b) {
+            return n;
         }
-        if i - from >= out.len() {
-            return i;
-        }
-        out[i - from] = digit(line[i]);
-        i += 1;
+        out[n] = digit(b);
+        n += 1;
     }
-    i
+    n
 }
 
 // How many bytes of a case one byte of its text takes: two where a backslash leads.
@@ -50,19 +54,16 @@ fn width(b: u8) -> usize
 }
 
 // The byte of the text, from a byte of the case and the one behind it.
-fn meant(b: u8, next: u16) -> u8 {
-    if b == b'\\' {
-        if next == 110 {
-            return b'\n';
-        }
-        if next == 114 {
-            return b'\r';
-        }
-        if next == 116 {
-            return b'\t';
-        }
+fn meant(b: u8, next: u8) -> u8 {
+    if b != b'\\' {
+        return b;
     }
-    b
+    match next {
+        b'n' => b'\n',
+        b'r' => b'\r',
+        b't' => b'\t',
+        _ => b,
+    }
 }
 
 // Writes the text of a case, from an index on, and gives its length.
@@ -74,7 +75,7 @@ pub fn unescape(line: &[u8], from: usize, out: &mut [u8]) -> usize {
             return n;
         }
         let b = line[i];
-        out[n] = meant(b, peek(line, i + 1));
+        out[n] = meant(b, byte_at(line, i + 1));
         n += 1;
         i += width(b);
     }

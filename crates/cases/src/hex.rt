@@ -1,8 +1,21 @@
-// Cases in hexadecimal: a letter, and two digits for each byte.
+// Cases in hexadecimal: two digits for each byte, and numbers of two bytes, high byte first.
 ghost use Prim.Native.Nat.{_<_};
 
+// The byte at an index, or 0.
+pub fn byte_at(bytes: &[u8], index: usize) -> u8 {
+    if index < bytes.len() {
+        return bytes[index];
+    }
+    0
+}
+
+// The number in the two bytes at the front.
+pub fn number(bytes: &[u8]) -> usize {
+    byte_at(bytes, 0) as usize * 256 + byte_at(bytes, 1) as usize
+}
+
 // The value of a digit, or 0.
-fn digit(b: u8) -> u8
+pub fn digit(b: u8) -> u8
     ensures { λ r. ⌜ r < 16 ⌝ }
 {
     if b < b'0' {

@@ -1,9 +1,19 @@
-// Answers on standard output. None of these ends the line.
-use flow::html_flow::kind_number;
-use flow::scan::Block;
-use html::tokenizer::Inline;
-use trace::reader::Record;
-use trace::tracer::Traced;
+// Words, numbers and bytes on standard output. A word costs the prover more than a call, so what comes again has a function.
+
+// The end of a line.
+pub fn end_line() {
+    io::write_all(1, b"\n");
+}
+
+// For a letter that no kind has.
+pub fn unknown() {
+    io::write_all(1, b"no such case");
+}
+
+// One space.
+pub fn space() {
+    io::write_all(1, b" ");
+}
 
 // A word, and a number behind it.
 pub fn put(word: &[u8], number: u64) {
@@ -11,91 +21,46 @@ pub fn put(word: &[u8], number: u64) {
     io::print_decimal(1, number);
 }
 
+// One more number.
+pub fn next(number: u64) {
+    space();
+    io::print_decimal(1, number);
+}
+
+// `found NUMBER`.
+pub fn found(number: u64) {
+    put(b"found ", number);
+}
+
+// `none`.
+pub fn none() {
+    io::write_all(1, b"none");
+}
+
+// `refused NUMBER`.
+pub fn refused(number: u64) {
+    put(b"refused ", number);
+}
+
+// One word or the other.
+pub fn either(test: bool, yes: &[u8], no: &[u8]) {
+    if test {
+        io::write_all(1, yes);
+    } else {
+        io::write_all(1, no);
+    }
+}
+
+// `yes` or `no`.
+pub fn yes_or_no(test: bool) {
+    either(test, b"yes", b"no");
+}
+
 // Bytes, in two hexadecimal digits each.
-fn show_bytes(bytes: &[u8]) {
+pub fn show_bytes(bytes: &[u8]) {
     let mut i: usize = 0;
     while i < bytes.len() {
         io::print_hex(1, bytes[i] as u64, 2);
         i += 1;
-    }
-}
-
-// `found STOP CARRY`, `none CARRY` or `refused NUMBER CARRY`.
-pub fn show_inline(answer: Inline) {
-    match answer {
-        Inline::Found { stop, carry } => {
-            put(b"found ", stop as u64);
-            put(b" ", carry as u64);
-        }
-        Inline::Missing { carry } => {
-            put(b"none ", carry as u64);
-        }
-        Inline::Refused { refusal, carry } => {
-            put(b"refused ", refusal as u64);
-            put(b" ", carry as u64);
-        }
-    }
-}
-
-// `found KIND STOP yes` where a closer was met, `found KIND STOP no` where none was, `none` or `refused NUMBER`.
-pub fn show_block(answer: Block) {
-    match answer {
-        Block::Found(found) => {
-            let kind = found.kind;
-            put(b"found ", kind_number(kind) as u64);
-            put(b" ", found.stop as u64);
-            if found.closed {
-                io::write_all(1, b" yes");
-            } else {
-                io::write_all(1, b" no");
-            }
-        }
-        Block::Missing => {
-            io::write_all(1, b"none");
-        }
-        Block::Refused { refusal } => {
-            put(b"refused ", refusal as u64);
-        }
-    }
-}
-
-// `traced LENGTH` or `refused NUMBER`, and the buffer.
-pub fn show_trace(answer: Traced, out: &[u8]) {
-    match answer {
-        Traced::Length(n) => {
-            put(b"traced ", n as u64);
-        }
-        Traced::Refused { refusal } => {
-            put(b"refused ", refusal as u64);
-        }
-    }
-    io::write_all(1, b" ");
-    show_bytes(out);
-}
-
-// `event KIND LINE COLUMN INDEX VS`, `last KIND STOP VALUE` or `refused NUMBER`.
-pub fn show_record(answer: Record) {
-    match answer {
-        Record::Event {
-            kind,
-            line,
-            column,
-            index,
-            vs,
-        } => {
-            put(b"event ", kind as u64);
-            put(b" ", line as u64);
-            put(b" ", column as u64);
-            put(b" ", index as u64);
-            put(b" ", vs as u64);
-        }
-        Record::Last { kind, stop, value } => {
-            put(b"last ", kind as u64);
-            put(b" ", stop as u64);
-            put(b" ", value as u64);
-        }
-        Record::Refused { refusal } => {
-            put(b"refused ", refusal as u64);
-        }
     }
 }

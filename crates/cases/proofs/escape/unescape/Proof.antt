@@ -25,11 +25,11 @@ returns c = search needs
 shared-slice-read-b : tie.Need-shared-slice-read-b Inv-loop μ-loop
 shared-slice-read-b c = search needs
 
-add-peek : tie.Need-add-peek Inv-loop μ-loop
-add-peek c = search needs
+add-byte-at : tie.Need-add-byte-at Inv-loop μ-loop
+add-byte-at c = search needs
 
-peek-requires : tie.Need-peek-requires Inv-loop μ-loop
-peek-requires c κs = search needs
+byte-at-requires : tie.Need-byte-at-requires Inv-loop μ-loop
+byte-at-requires c κs = search needs
 
 meant-requires : tie.Need-meant-requires Inv-loop μ-loop
 meant-requires c κs = search needs
@@ -68,8 +68,8 @@ unescape-spec =
     same-length
     returns
     shared-slice-read-b
-    add-peek
-    peek-requires
+    add-byte-at
+    byte-at-requires
     meant-requires
     slice-write-out
     add-n

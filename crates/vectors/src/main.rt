@@ -1,0 +1,23 @@
+// The cases that are made by hand; what a line asks, and the form of its answer, stand in crates/cases. In their order:
+//
+// 96 of a line (`n`): every name of both lists, names near to them, and lines with tabs or blank.
+//
+// 432 of both scans: of the 103 inline cases (`i`) 69 are 01's rows for html_text.rs, more of the same kinds, and the refusals 4, 5 and 6; of the 329 block cases
+// (`b`) 271 are 01's rows for html_flow.rs, more of the same kinds, and the refusals 2, 3 and 4. The last 92 are from CommonMark 0.31.2 (CC BY-SA 4.0): each `<` of
+// the 20 examples of Raw HTML (34 cases; a paragraph is a text), and in 42 of the 44 examples of HTML blocks, those without containers, each line outside a block that
+// begins with `<` behind spaces (58 cases; the flag is 2 behind a line of a paragraph, else 0). The answers are those of the Rust crate markdown 1.0.0; the refusals
+// are 01's table.
+//
+// 79 of traces: the bytes of written traces (`I`, `B`) are those of the Rust crate markdown 1.0.0, from compare; records read (`e`) and refusals are worked out by hand.
+//
+// 263 of both forms in crates/reader: the texts of `r` and `t` and their answers are those of the inline scan above, but that the run does not make 01's refusals; the
+// index and byte behind them are counted from the text. The texts of `p` are paragraphs of CommonMark 0.31.2 (CC BY-SA 4.0), 6.6, and the answers of `T` and `F` are
+// what its 6.6 and 4.6 say of the text; those of `f` for CDATA are 01's F1.
+//
+// 294 of withholding (`w`): 01's row of the added screen; the refusals 1, 2, 3 and 7, and room that just suffices; blocks of each kind, with and without their closers,
+// lazy and interrupting lines, the three line endings, tabs, blank lines and the empty last line; paragraphs next to blocks; inline pieces over several lines; openings
+// that no closer follows, and closed ones behind them and in the next paragraph; and bulletins that differ in a private piece. The pieces are those that the Rust crate
+// markdown 1.0.0 finds, from compare, where 01's Withhold paragraph has it scan; the refusals are 01's table.
+fn main() {
+    cases::run::all();
+}
