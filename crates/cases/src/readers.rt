@@ -3,7 +3,6 @@ use crate::scans::show_inline;
 use crate::show::next;
 use crate::show::yes_or_no;
 use flow::html_flow::Kind;
-use html::tokenizer::StateName;
 use reader::slice::Turn;
 use reader::slice::read_at;
 use rules::Rules;
@@ -64,12 +63,12 @@ pub fn pieces(text: &[u8], from: usize) {
 
 // The inline run by the lent step, with all eight changes.
 pub fn run(text: &[u8], index: usize, carry: u8) {
-    show_inline(reader::html_text::run(reading(true), text, index, StateName::Start, carry));
+    show_inline(reader::html_text::inline_at(reading(true), text, index, carry));
 }
 
 // What begins at an index by the lent step, with none of the changes.
 pub fn begins(text: &[u8], index: usize) {
-    show_inline(reader::html_text::inline_at(reading(false), text, index));
+    show_inline(reader::html_text::inline_at(reading(false), text, index, 0));
 }
 
 // Whether a line of a block of a kind has its closer, by the lent step with all eight changes or none.

@@ -24,6 +24,7 @@ use lexical::line::line_end;
 use lexical::line::space_or_tab_end;
 use lexical::slice::from_indices;
 use rules::Rules;
+use rules::crate_rules;
 
 // 01, Where each refusal is met.
 const TOO_LONG: u8 = 1;
@@ -114,16 +115,7 @@ pub fn block_scan(bulletin: &[u8], flags: &[u8], index: usize) -> Block
             refusal: WRONG_INDEX,
         };
     }
-    let all = Rules {
-        f1: true,
-        f2: true,
-        f3: true,
-        f4: true,
-        f5: true,
-        f6: true,
-        t1: true,
-        t2: true,
-    };
+    let all = crate_rules();
     let line = count_lines(from_indices(bulletin, 0, index)) - 1;
     block_at(all, bulletin, flags, index, line)
 }

@@ -17,6 +17,7 @@ use lexical::line::ends_line;
 use lexical::line::line_end;
 use lexical::line::space_or_tab_end;
 use rules::Rules;
+use rules::crate_rules;
 
 // 01, Where each refusal is met.
 const TOO_LONG: u8 = 1;
@@ -117,15 +118,6 @@ pub fn inline_scan(text: &[u8], index: usize, carry: u8) -> Inline
     if refusal != 0 {
         return Inline::Refused { refusal, carry };
     }
-    let all = Rules {
-        f1: true,
-        f2: true,
-        f3: true,
-        f4: true,
-        f5: true,
-        f6: true,
-        t1: true,
-        t2: true,
-    };
+    let all = crate_rules();
     keep(all, run(all, text, index, StateName::Start, carry), carry)
 }

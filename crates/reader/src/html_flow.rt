@@ -55,7 +55,7 @@ pub fn stepped(line: Line, rules: Rules, b: u8) -> Line
 }
 
 // Whether a line of kinds 2 to 5 has the closer, by the lent step: what the run of the core gives.
-pub fn meets_closer(rules: Rules, kind: Kind, line: &[u8]) -> bool
+fn meets_closer(rules: Rules, kind: Kind, line: &[u8]) -> bool
     ensures { λ r. ⌜ r ≡ meetsOf rules kind Continuation (now (line .entry)) ⌝ }
 {
     let mut name = ContinuationName::Continuation;

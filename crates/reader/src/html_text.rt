@@ -1,5 +1,6 @@
 // html_text.rs: the inline scanner's state, lent and changed, where the Rust has `&mut Tokenizer`.
 ghost use mathlib.Core.Path.{_≡_};
+ghost use Prim.Native.Nat.{_≤_};
 ghost use lib.ListN.{length, drop};
 ghost use Rattle.rules.specs.Scan.{inlineAnswer, inlineAt};
 ghost use Rattle.html.specs.Answer.{inlineOf};
@@ -90,7 +91,7 @@ pub fn stepped(scanner: Scanner, rules: Rules, b: u8) -> Scanner
 }
 
 // From a state at an index to the end of the text, by the lent step: what the run of the core gives.
-pub fn run(rules: Rules, text: &[u8], from: usize, start: StateName, carry: u8) -> Inline
+fn run(rules: Rules, text: &[u8], from: usize, start: StateName, carry: u8) -> Inline
     ensures { λ r. ⌜ inlineOf r ≡ inlineAnswer (length (now (text .entry))) (runOf rules start carry (drop from (now (text .entry)))) ⌝ }
 {
     let mut state = start;
@@ -122,9 +123,13 @@ pub fn run(rules: Rules, text: &[u8], from: usize, start: StateName, carry: u8) 
     Inline::Missing { carry: size }
 }
 
-// What begins at an index, in any reading and with carry 0, by the lent step. Past the end: none.
-pub fn inline_at(rules: Rules, text: &[u8], index: usize) -> Inline
-    ensures { λ r. ⌜ inlineOf r ≡ inlineAt rules (now (text .entry)) index 0 ⌝ }
+// What begins at an index, in any reading, by the lent step. Past the end: none. It is promised for every carry that there is, 0 to 5. Without T2 the carry is
+// neither read nor changed.
+pub fn inline_at(rules: Rules, text: &[u8], index: usize, carry: u8) -> Inline
+    ensures { λ r. ⌜ (carry ≤ 5 → inlineOf r ≡ inlineAt rules (now (text .entry)) index carry) ⌝ }
 {
-    keep(rules, run(rules, text, index, StateName::Start, 0), 0)
+    if rules.t2 {
+        return keep(rules, run(rules, text, index, StateName::Start, carry), carry);
+    }
+    keep(rules, run(rules, text, index, StateName::Start, 0), carry)
 }

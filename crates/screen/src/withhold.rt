@@ -10,6 +10,7 @@ ghost use Rattle.screen.specs.Shows.{Shows};
 use flow::scan::bulletin_refusal;
 use lexical::copy::copy_part;
 use rules::Rules;
+use rules::crate_rules;
 use walk::pieces::Next;
 use walk::pieces::at_line;
 use walk::pieces::next_piece;
@@ -117,15 +118,6 @@ pub fn withhold(bulletin: &[u8], flags: &[u8], out: &mut [u8]) -> Withheld
     ensures { λ r. ⌜ shownOf r ≡ withholdOf ofCrate (now (bulletin .entry)) (now (flags .entry)) (length (now (out .entry))) ⌝ }
     ensures { λ r. ⌜ now (out .exit) ≡ written (withholdRefusal ofCrate (now (bulletin .entry)) (now (flags .entry)) (length (now (out .entry)))) (shown ofCrate (now (bulletin .entry)) (now (flags .entry))) (now (out .entry)) ⌝ }
 {
-    let all = Rules {
-        f1: true,
-        f2: true,
-        f3: true,
-        f4: true,
-        f5: true,
-        f6: true,
-        t1: true,
-        t2: true,
-    };
+    let all = crate_rules();
     withhold_by(all, bulletin, flags, out)
 }

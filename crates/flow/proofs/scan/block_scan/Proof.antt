@@ -78,6 +78,9 @@ returns-2 c =
     let a = d .before .before .before .before .args in
     sym (refuses-index (a .bulletin .now) (a .flags .now) (a .index) _ (d .before .bulletin-refusal .ensures) (d .if1 .left) (ap not (sym (c .before .is-line-start .ensures)) ∙ c .if2 .taken))
 
+crate-rules-requires : tie.Need-crate-rules-requires
+crate-rules-requires c κs = search needs
+
 from-indices-requires : tie.Need-from-indices-requires
 from-indices-requires c κs = search needs
 
@@ -92,10 +95,11 @@ block-at-requires c κs = search needs
 
 returns-3 : tie.Need-returns-3
 returns-3 c =
-    let l = c .before .before .before in
+    let l = c .before .before .before .before in
     let d = l .before .before in
     let a = d .before .before .before .before .args in
     c .block-at .ensures
+    ∙ ap (λ ρ. blockOf ρ (a .index) (linesOf (drop (c .before .count-lines .result - 1) (a .flags .now)) (drop (a .index) (a .bulletin .now)))) (c .before .before .before .crate-rules .ensures)
     ∙ numbered (a .bulletin .now) (a .flags .now) (a .index) _ (number-is (a .bulletin .now) (a .flags .now) (a .index) _ _ (c .before .before .from-indices .ensures) (c .before .count-lines .ensures))
     ∙ sym (refuses-nothing (a .bulletin .now) (a .flags .now) (a .index) _ (d .before .bulletin-refusal .ensures) (d .if1 .left) (ap not (sym (l .before .is-line-start .ensures)) ∙ l .if2 .left))
 
@@ -107,6 +111,7 @@ block-scan-spec =
     returns
     is-line-start-requires
     returns-2
+    crate-rules-requires
     from-indices-requires
     count-lines-requires
     sub-line
