@@ -130,6 +130,25 @@ for ((b = 0; b < 256; b++)); do
 done >"$folder/in"
 shows 'every byte but <'
 
+# README, What it does not know and A broken CDATA opening: what is shown of constructs that withholding takes for text.
+withholds() {
+    printf '%b' "$2" >"$folder/in"
+    printf '%b' "$3" >"$folder/shown"
+    : >"$folder/said"
+    both "README, $1" 0 env
+}
+withholds 'code span' 'a `<b>` c' 'a `` c'
+withholds 'fenced code' '```\n<div>\n```\nok' '```\n'
+withholds 'indented code' '    <div>\n    x' '    \n    x'
+withholds 'block quote' '> <div>\n> x' '> \n> x'
+withholds 'list' '- <script>\n  x' '- \n  x'
+withholds 'list, blank lines' '- <!--\n\n  x\n\n  -->' '- <!--\n\n  x\n\n  -->'
+withholds 'backslash' '\\<b>' '\\'
+withholds 'link destination' '[a](<b>)' '[a]()'
+withholds 'autolink' '<https://example.org>' '<https://example.org>'
+withholds 'no second reading' '<<b>b>' '<b>'
+withholds 'a broken CDATA opening' 'door <![CDx 9 <![CDATA[old 7]]> ok' 'door <![CDx 9  ok'
+
 # A bulletin of 16,000 bytes that is one piece.
 {
     printf '<!--'
