@@ -3,7 +3,7 @@
 #
 #     compare/run.sh [--archive FILE] [--seed N] [--count N | --long]
 #
-# FILE is target/staticlib/libforingamo.a where none is given, and is then made first. The seed is 1 and the count of random texts 1,000,000 where none is
+# FILE is target/staticlib/libforingamo.a where none is given; scripts/archive.sh builds it where it must. The seed is 1 and the count of random texts 1,000,000 where none is
 # given; the head of compare/src/differ.rs tells what is compared. The short form takes about half a minute on two cores, --long about two (docs/DIFFERENCES.md).
 # The crate's files stand in $FORINGAMO_RUST_SOURCES, in ../shared/docs/src where that is not set. Where they or rustc are not there its last lines say 'not
 # compared'.
@@ -25,7 +25,7 @@ if [ "${1:-}" = --archive ]; then
     archive=${2:?an archive}
     shift 2
 else
-    rt staticlib foringamo >/dev/null || ends "rt staticlib foringamo failed" "0 passed, 1 failed" 1
+    scripts/archive.sh || ends "there is no archive" "0 passed, 1 failed" 1
 fi
 
 # The linker looks for the archive by its name in a folder.
