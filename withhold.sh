@@ -67,12 +67,11 @@ is_built() {
 # Says which crates are being proved: rt makes target/log/NAME.say when it begins with one.
 declare -A told
 tell() {
-    local k name
-    for ((k = 0; k < ${#order[@]}; k++)); do
-        name=${order[k]}
+    local name
+    for name in "${order[@]}"; do
         if [[ ! -v told[$name] && $root/target/log/$name.say -nt $folder/began ]]; then
             told[$name]=1
-            say "proving $name, $((k + 1)) of ${#order[@]}"
+            say "proving $name, ${#told[@]} of ${#order[@]}"
         fi
     done
 }

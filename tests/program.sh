@@ -362,6 +362,8 @@ ends_by HUP 129
 # target/log/NAME.say is made when a crate's proof begins, notes go to standard output, a program whose stamp is there is not built again, and the status is 1 where
 # something is not proved.
 
+# The crates that the program depends on, and the program.
+export STAND_IN_CRATES='lexical rules html flow runs walk screen withhold'
 copy=$folder/copy
 mkdir -p "$copy" "$folder/bin"
 cp -R withhold.sh scripts VERSION crates.txt crates "$copy/"
@@ -371,7 +373,7 @@ cat >"$folder/bin/rt" <<'STAND_IN'
 echo run >>"$STAND_IN/runs"
 echo $$ >"$STAND_IN/pid"
 mkdir -p target/log target/bin target/stamp
-for crate in lexical rules html flow runs screen withhold; do
+for crate in $STAND_IN_CRATES; do
     echo 'note: a note of the prover' | tee "target/log/$crate.say"
     sleep "${STAND_IN_TIME:-0}"
     echo "rt: $crate proved (0 s)"
@@ -426,14 +428,14 @@ runs 'the first run' 1
 {
     echo "withhold: building the program first: each crate that is new or changed is proved, which can take minutes; what the prover says goes to $copy/target/withhold/build.log"
     k=0
-    for crate in lexical rules html flow runs screen withhold; do
+    for crate in $STAND_IN_CRATES; do
         k=$((k + 1))
-        echo "withhold: proving $crate, $k of 7"
+        echo "withhold: proving $crate, $k of $(wc -w <<<"$STAND_IN_CRATES")"
     done
     echo 'withhold: built'
 } >"$folder/said"
 is 'the first run: what is said' "$(<"$folder/err")" "$(<"$folder/said")"
-is 'the first run: the notes in the log' "$(grep -c '^note: ' "$copy/target/withhold/build.log")" 7
+is 'the first run: the notes in the log' "$(grep -c '^note: ' "$copy/target/withhold/build.log")" "$(wc -w <<<"$STAND_IN_CRATES")"
 
 # A run that need not build.
 row
