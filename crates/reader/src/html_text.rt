@@ -129,7 +129,11 @@ pub fn inline_at(rules: Rules, text: &[u8], index: usize, carry: u8) -> Inline
     ensures { λ r. ⌜ (carry ≤ 5 → inlineOf r ≡ inlineAt rules (now (text .entry)) index carry) ⌝ }
 {
     if rules.t2 {
-        return keep(rules, run(rules, text, index, StateName::Start, carry), carry);
+        return keep(
+            rules,
+            run(rules, text, index, StateName::Start, carry),
+            carry,
+        );
     }
     keep(rules, run(rules, text, index, StateName::Start, 0), carry)
 }

@@ -18,9 +18,10 @@ returns : tie.Need-returns
 returns c =
     let a = c .before .before .before .before .before .before .before .before .args in
     let all = c .before .before .before .before .crate-rules .ensures in
-    let w = c .before .before .withhold-by .ensures in
-    (w .0 ∙ ap (λ ρ. withholdOf ρ (a .bulletin .now) (a .flags .now) (length (a .out .now))) all,
-    w .1 ∙ ap (λ ρ. written (withholdRefusal ρ (a .bulletin .now) (a .flags .now) (length (a .out .now))) (shown ρ (a .bulletin .now) (a .flags .now)) (a .out .now)) all)
+    let w = c .before .before .withhold-by .ensures in (
+      w .0 ∙ ap (λ ρ. withholdOf ρ (a .bulletin .now) (a .flags .now) (length (a .out .now))) all,
+      w .1 ∙ ap (λ ρ. written (withholdRefusal ρ (a .bulletin .now) (a .flags .now) (length (a .out .now))) (shown ρ (a .bulletin .now) (a .flags .now)) (a .out .now)) all,
+    )
 
 pub withhold-spec : {M : Type 1} → statement M
 withhold-spec = tie.close (tie.spec crate-rules-requires withhold-by-requires same-length returns)
