@@ -12,9 +12,9 @@ folder=$(mktemp -d) || exit 1
 trap 'rm -rf "$folder"' EXIT
 version=$(cat VERSION)
 interface=${version%.*}
-# Installed as it is, and to be moved to /opt/foringamo later.
+# Installed as it is, and to be moved to /srv/foringamo later.
 plain=$folder/plain
-staged=$folder/stage/opt/foringamo
+staged=$folder/stage/srv/foringamo
 
 passed=0
 failed=0
@@ -143,7 +143,7 @@ one_version() {
 
 places() {
     same 'foringamo.pc' "$(field "$plain/lib/pkgconfig/foringamo.pc" prefix)" "$plain"
-    same 'foringamo.pc under DESTDIR' "$(field "$staged/lib/pkgconfig/foringamo.pc" prefix)" /opt/foringamo
+    same 'foringamo.pc under DESTDIR' "$(field "$staged/lib/pkgconfig/foringamo.pc" prefix)" /srv/foringamo
     check 'what is installed names DESTDIR' test -z "$(grep -rlF "$folder" "$staged")"
 }
 
@@ -271,7 +271,7 @@ if ! scripts/archive.sh 2>&1 || ! ./withhold.sh </dev/null 2>&1; then
     fails 'there is nothing to install'
 else
     installs "$plain" ./install.sh "$plain"
-    installs "$staged" env DESTDIR="$folder/stage" ./install.sh /opt/foringamo
+    installs "$staged" env DESTDIR="$folder/stage" ./install.sh /srv/foringamo
     # Again, over itself; with a slash at the end; from another folder, to one that is named from there.
     installs "$plain" ./install.sh "$plain/"
     installs "$folder/here" env -C "$folder" "$PWD/install.sh" here
