@@ -10,8 +10,9 @@ pub struct Shown {
     pub scans: u64,
 }
 
-/// Go line by line; at each line outside a block, try a block. Runs of nonblank
-/// lines outside blocks are paragraphs. All bytes outside pieces are shown.
+/// Lines are taken one after the other, and where no block is going on one is
+/// tried; the other lines that are not blank make up paragraphs. What no piece
+/// holds is shown.
 pub fn withhold(bulletin: &[u8], flags: &[u8]) -> Shown {
     let starts = line_starts(bulletin);
     let mut pieces: Vec<Range<usize>> = vec![];

@@ -6,7 +6,7 @@ use Rattle.rules.specs.Reading.{Change, crate, standard, without}
 use Rattle.rules.specs.Scan.{inlineScan, blockScan}
 use Rattle.rules.specs.declared.Rules.{Rules}
 
--- 01: a change applies to a scan when the answer under all eight differs from the answer with that one left out; here it does not
+-- 01: a change applies to a scan whose answer would be another if this change alone were undone; here it does not
 abbrev pub Spares : {A : Type 0} → (Rules → A) → Change → Type 0
 Spares scan c = scan crate ≡ scan (without c)
 

@@ -23,7 +23,7 @@ pub data Mark : Type 0 where
   paragraphFirst : Mark
   paragraphMore : Mark
 
--- at each line outside a block, try a block; runs of nonblank lines outside blocks are paragraphs.
+-- where no block is going on one is tried; the other lines that are not blank are paragraphs, as many as stand together being one.
 -- n further lines belong to a block; the line before belongs to a paragraph or not
 unfoldable pub marks : Rules → ℕ → Bool → List Line → List Mark
 marks ρ n paragraph [] = []
@@ -63,7 +63,7 @@ abbrev pub byRead : Read → (Unit {0} → List Piece) → (List ℕ → List Pi
 byRead (takes s k) none found = found s
 byRead (lacks k) none found = none tt
 
--- in a paragraph, from the left, try every `<` by inline scan with carry 0; go on at the stop of what is found. s begins at i and has at most n bytes
+-- each `<` of a paragraph is tried, leftmost first, with carry 0; the next one is looked for behind what was found. s begins at i and has at most n bytes
 unfoldable pub inlinePieces : Rules → ℕ → ℕ → List ℕ → List Piece
 inlinePieces ρ zero i s = []
 inlinePieces ρ (suc n) i [] = []
@@ -71,7 +71,7 @@ inlinePieces ρ (suc n) i (x ∷ xs) =
     byRead (readInline ρ 0 (x ∷ xs)) (λ _. inlinePieces ρ n (suc i) xs)
     (λ s. piece i (i + (length (x ∷ xs) - length s)) inline ∷ inlinePieces ρ n (i + (length (x ∷ xs) - length s)) s)
 
--- of all lines, the first of which stands behind the index i; a block is withheld from its line's first byte to its stop
+-- of all lines, the first of which stands behind the index i; a block goes from the first byte of its first line to its stop
 unfoldable pub linePieces : Rules → ℕ → List Mark → List Line → List Piece
 linePieces ρ i [] ls = []
 linePieces ρ i (m ∷ ms) [] = []
@@ -109,7 +109,7 @@ outside i ps (x ∷ xs) = choose (isWithheld i ps) (λ _. outside (suc i) ps xs)
 unfoldable pub shown : Rules → List ℕ → List ℕ → List ℕ
 shown ρ text flags = outside 0 (pieces ρ text flags) text
 
--- one number counts blocks and inline pieces together
+-- blocks and inline pieces are counted in one number
 unfoldable pub count : Rules → List ℕ → List ℕ → ℕ
 count ρ text flags = length (pieces ρ text flags)
 

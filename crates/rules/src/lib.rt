@@ -4,21 +4,21 @@ ghost use mathlib.Core.Path.{_≡_};
 ghost use Rattle.rules.specs.Reading.{crate as ofCrate};
 
 pub struct Rules {
-    // Kind 5 closes at a maximal, even, nonempty run of `]` before `>`.
+    // Kind 5: the closer is `>` behind brackets `]` that are even in number, two or more; all that stand there in a row are counted.
     pub f1: bool,
-    // A kind 7 attribute name may begin with a digit.
+    // Kind 7: a digit, too, begins an attribute's name.
     pub f2: bool,
-    // Kind 7 admits an open tag of a raw name where `/` stands right behind the name. (Closing tags of raw names are admitted without it too.)
+    // Kind 7: an open tag may have a raw name where `/` comes right behind it. (Closing tags with a raw name are taken without this change too.)
     pub f3: bool,
-    // A kind 7 unquoted value holds no `/`, and is empty only before `/`.
+    // Kind 7: no `/` belongs to an unquoted value, and such a value can be empty if what follows is `/`, not otherwise.
     pub f4: bool,
-    // After a kind 7 unquoted value, optional spaces or tabs, then `=` and a further value may follow.
+    // Kind 7: an unquoted value can be followed by another `=` and value, and spaces or tabs may stand around that `=`.
     pub f5: bool,
-    // Kind 7 is refused by interrupt exactly when not lazy.
+    // Kind 7: the flag interrupt keeps it from opening, unless the line is lazy too.
     pub f6: bool,
-    // An inline unquoted value holds `/` only as its first byte.
+    // Inline: `/` can be the first byte of an unquoted value, and no other.
     pub t1: bool,
-    // The CDATA prefix is compared from the carry.
+    // Inline: behind `<![` the letters `CDATA[` are compared beginning with the one at the carry.
     pub t2: bool,
 }
 
