@@ -1,0 +1,70 @@
+/*
+ * One call again and again, for bench/count.sh: 'count INPUT' scans or withholds 16,000 bytes 200 times, and writes what the answers add up to.
+ */
+#include "foringamo.h"
+
+#include <stdio.h>
+#include <string.h>
+
+enum { LENGTH = 16000, ROUNDS = 200, LINE = 73 };
+
+static uint8_t text[LENGTH], flags[LENGTH + 1], out[LENGTH];
+static size_t lines = 1;
+
+/* A unit again and again. */
+static void repeat(const char *unit)
+{
+    size_t size = strlen(unit);
+    for (size_t i = 0; i < LENGTH; i++)
+        text[i] = (uint8_t)unit[i % size];
+}
+
+/* A unit again and again between an opening and a closer. */
+static void enclose(const char *opening, const char *unit, const char *closer)
+{
+    repeat(unit);
+    memcpy(text, opening, strlen(opening));
+    memcpy(text + LENGTH - strlen(closer), closer, strlen(closer));
+}
+
+static size_t scans(void)
+{
+    foringamo_inline answer = foringamo_inline_scan(text, LENGTH, 0, 0);
+    return answer.refusal + answer.found + answer.stop;
+}
+
+static size_t withholds(void)
+{
+    foringamo_shown answer = foringamo_withhold(text, LENGTH, flags, lines, out, LENGTH);
+    return answer.refusal + answer.pieces + answer.length;
+}
+
+int main(int count, char **words)
+{
+    const char *input = count == 2 ? words[1] : "";
+    size_t (*call)(void) = scans;
+    size_t sum = 0;
+    if (!strcmp(input, "comment")) {
+        enclose("<!--", "x", "-->");
+    } else if (!strcmp(input, "value")) {
+        enclose("<a b=\"", "x", "\">");
+    } else if (!strcmp(input, "attributes")) {
+        enclose("<a ", "b=c d ", ">");
+    } else if (!strcmp(input, "prose")) {
+        repeat("the quick brown fox ");
+        for (size_t i = LINE; i < LENGTH; i += LINE)
+            text[i] = '\n';
+        call = withholds;
+    } else if (!strcmp(input, "tags")) {
+        repeat("a <b>x</b> <i>y</i> z\n");
+        call = withholds;
+    } else {
+        return 2;
+    }
+    for (size_t i = 0; i < LENGTH; i++)
+        lines += text[i] == '\n';
+    for (int i = 0; i < ROUNDS; i++)
+        sum += call();
+    printf("%zu\n", sum);
+    return 0;
+}
