@@ -1,16 +1,17 @@
--- The two tables of names. One computed test says of both that their bytes are lower case letters or digits, their names are in order, their offsets rise
--- and cut just the names; the laws turn it into the rule at each entry. Then the lookup: one turn compares a name with the part between two offsets.
+-- The two tables of names. One computed test says of both that their bytes are lower case letters or digits, their names are in order and fewer than the number
+-- that stands for none, their offsets rise and cut just the names; the laws turn it into the rule at each entry. Then the lookup: one turn compares a name with
+-- the part between two offsets.
 use mathlib.Core.Path.{_≡_, refl, sym, _∙_, ap}
-use mathlib.Core.Bool.{Bool, true, false, _&&_, _||_}
-use mathlib.Core.List.{List, [], _∷_}
-use Prim.Native.Nat.{ℕ, _+_, _-_, _<_, _≤_}
+use mathlib.Core.Bool.{Bool, true, false, _&&_, _||_, not}
+use mathlib.Core.List.{List, [], _∷_, map}
+use Prim.Native.Nat.{ℕ, suc, _+_, _-_, _<_, _≤_}
 use native.Mathlib.Omega.{arith}
 use lib.Dec.{eqb, leb, ltb}
-use borrow.Author.Tests.{ltb-true, ltb-false, leb-true}
+use borrow.Author.Tests.{ltb-true, ltb-false, leb-true, ne-eqb}
 use lib.ListN.{length, getD, take, drop}
-use Rattle.lexical.specs.Byte.{within, isDigit}
+use Rattle.lexical.specs.Byte.{within, isDigit, lower}
 use Rattle.lexical.specs.Text.{byte}
-use Rattle.lexical.specs.Name.{blockNames, rawNames, sameBytes, isMember, nameBytes, nameOffsets, cut, all, chain, rising}
+use Rattle.lexical.specs.Name.{blockNames, rawNames, sameBytes, isMember, isBlockName, isRawName, unnamed, placeFrom, blockPlace, rawPlace, nameBytes, nameOffsets, cut, all, chain, rising}
 use Rattle.lexical.proofs.Cases.{and-left, and-right, split}
 use Rattle.lexical.proofs.Suffix.{suffix-in, suffix-out}
 use Rattle.lexical.proofs.Same.{same-equal}
@@ -51,7 +52,7 @@ cuts names = sameNames (cut (nameBytes names) (nameOffsets 0 names)) names
 unfoldable pub sound : List (List ℕ) → Bool
 sound names =
     all isLowerByte (nameBytes names)
-    && (chain before names && (rising (length (nameBytes names)) (nameOffsets 0 names) && cuts names))
+    && (chain before names && (rising (length (nameBytes names)) (nameOffsets 0 names) && (cuts names && ltb (length names) unnamed)))
 
 pub tables-sound : (sound blockNames && sound rawNames) ≡ true
 unfolding sound sameNames sameBytes all chain rising cut nameBytes nameOffsets blockNames rawNames
@@ -76,6 +77,12 @@ pub block-last : getD (nameOffsets 0 blockNames) 62 0 ≡ 294
 unfolding blockNames nameOffsets
 block-last = refl
 
+-- one offset more than names
+offsets-length : (n : ℕ) (names : List (List ℕ)) → length (nameOffsets n names) ≡ suc (length names)
+unfolding nameOffsets
+offsets-length n [] = refl
+offsets-length n (x ∷ xs) = ap suc (offsets-length (n + length x) xs)
+
 module _ (names : List (List ℕ)) (e : sound names ≡ true) where
   abbrev lows : Bool
   lows = all isLowerByte (nameBytes names)
@@ -86,27 +93,39 @@ module _ (names : List (List ℕ)) (e : sound names ≡ true) where
   abbrev rise : Bool
   rise = rising (length (nameBytes names)) (nameOffsets 0 names)
 
-  rest : (order && (rise && cuts names)) ≡ true
+  abbrev few : Bool
+  few = ltb (length names) unnamed
+
+  rest : (order && (rise && (cuts names && few))) ≡ true
   unfolding sound
-  rest = and-right lows (order && (rise && cuts names)) e
+  rest = and-right lows (order && (rise && (cuts names && few))) e
 
   pub lower-at : (k : ℕ) → k < length (nameBytes names) → isLowerByte (getD (nameBytes names) k 0) ≡ true
   unfolding sound
-  lower-at k h = all-at 0 isLowerByte (nameBytes names) (and-left lows (order && (rise && cuts names)) e) k h
+  lower-at k h = all-at 0 isLowerByte (nameBytes names) (and-left lows (order && (rise && (cuts names && few))) e) k h
 
   pub order-at : (k : ℕ) → k + 1 < length names → before (getD names k []) (getD names (k + 1) []) ≡ true
-  order-at k h = chain-at [] before names (and-left order (rise && cuts names) rest) k h
+  order-at k h = chain-at [] before names (and-left order (rise && (cuts names && few)) rest) k h
 
   pub offsets-rise : rise ≡ true
-  offsets-rise = and-left rise (cuts names) (and-right order (rise && cuts names) rest)
+  offsets-rise = and-left rise (cuts names && few) (and-right order (rise && (cuts names && few)) rest)
+
+  cuts-few : (cuts names && few) ≡ true
+  cuts-few = and-right rise (cuts names && few) (and-right order (rise && (cuts names && few)) rest)
 
   pub cut-is : cut (nameBytes names) (nameOffsets 0 names) ≡ names
-  cut-is = same-names (cut (nameBytes names) (nameOffsets 0 names)) names (and-right rise (cuts names) (and-right order (rise && cuts names) rest))
+  cut-is = same-names (cut (nameBytes names) (nameOffsets 0 names)) names (and-left (cuts names) few cuts-few)
+
+  pub names-few : length names < unnamed
+  names-few = ltb-true (length names) unnamed (and-right (cuts names) few cuts-few)
 
   -- a table and its offsets as the code has them
   module _ (table offsets : List ℕ) (t : table ≡ nameBytes names) (o : offsets ≡ nameOffsets 0 names) where
     pub table-rises : rising (length table) offsets ≡ true
     table-rises = rw (t, o) offsets-rise
+
+    pub offsets-few : 0 + length offsets ≤ unnamed
+    offsets-few = let m : length offsets ≡ suc (length names) = ap length o ∙ offsets-length 0 names in omega (arith, m, names-few)
 
     pub names-are : cut table offsets ≡ names
     names-are = rw (t, o, cut-is)
@@ -141,15 +160,30 @@ module _ (table offsets : List ℕ) (k : ℕ) where
       (λ t. rw (suffix-out offsets k (ltb-false k (length offsets) t)))
 
   -- one turn: the name is that one, or is looked for behind it
-  module _ (n : List ℕ) where
-    pub hit : k + 1 < length offsets → sameBytes n part ≡ true → isMember n namesFrom ≡ true
-    unfolding isMember
-    hit h t = ap (isMember n) (names-in h) ∙ rw t
+  module _ (n : List ℕ) (place : ℕ) where
+    pub hit : k + 1 < length offsets → sameBytes n part ≡ true → placeFrom place n namesFrom ≡ place
+    unfolding placeFrom
+    hit h t = ap (placeFrom place n) (names-in h) ∙ rw t
 
-    pub miss : k + 1 < length offsets → sameBytes n part ≡ false → isMember n (cut table (drop (k + 1) offsets)) ≡ isMember n namesFrom
-    unfolding isMember
-    miss h t = sym (ap (isMember n) (names-in h) ∙ rw t)
+    pub miss : k + 1 < length offsets → sameBytes n part ≡ false → placeFrom (place + 1) n (cut table (drop (k + 1) offsets)) ≡ placeFrom place n namesFrom
+    unfolding placeFrom
+    miss h t = let z : place + 1 ≡ suc place = omega arith in sym (ap (placeFrom place n) (names-in h) ∙ rw (t, z))
 
-    pub no-more : length offsets ≤ k + 1 → isMember n namesFrom ≡ false
-    unfolding isMember
-    no-more h = ap (isMember n) (names-out h)
+    pub no-more : length offsets ≤ k + 1 → placeFrom place n namesFrom ≡ unnamed
+    unfolding placeFrom
+    no-more h = ap (placeFrom place n) (names-out h)
+
+-- ---- the place says whether it is there
+place-member : (k : ℕ) (n : List ℕ) (names : List (List ℕ)) → k + length names ≤ unnamed → isMember n names ≡ not (eqb (placeFrom k n names) unnamed)
+unfolding isMember placeFrom
+place-member k n [] h = refl
+place-member k n (x ∷ xs) h =
+    split (sameBytes n x) (λ e. let u = ne-eqb k 255 (λ z. omega arith) in rw (e, u)) (λ e. rw e (place-member (suc k) n xs (omega arith)))
+
+pub block-place-is : (n : List ℕ) → isBlockName n ≡ not (eqb (blockPlace n) unnamed)
+unfolding isBlockName blockPlace
+block-place-is n = place-member 0 (map lower n) blockNames (omega (arith, names-few blockNames block-sound))
+
+pub raw-place-is : (n : List ℕ) → isRawName n ≡ not (eqb (rawPlace n) unnamed)
+unfolding isRawName rawPlace
+raw-place-is n = place-member 0 (map lower n) rawNames (omega (arith, names-few rawNames raw-sound))

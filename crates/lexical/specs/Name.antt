@@ -97,6 +97,23 @@ isBlockName n = isMember (map lower n) blockNames
 unfoldable pub isRawName : List ℕ → Bool
 isRawName n = isMember (map lower n) rawNames
 
+-- ---- 02, Ask 1: which name it is
+-- no place: no list has as many names
+abbrev pub unnamed : ℕ
+unnamed = 255
+
+-- the place of a name in a list whose first name has the place k
+unfoldable pub placeFrom : ℕ → List ℕ → List (List ℕ) → ℕ
+placeFrom k n [] = unnamed
+placeFrom k n (x ∷ xs) = pick (sameBytes n x) k (placeFrom (suc k) n xs)
+
+-- counted from 0, and letter case ignored
+unfoldable pub blockPlace : List ℕ → ℕ
+blockPlace n = placeFrom 0 (map lower n) blockNames
+
+unfoldable pub rawPlace : List ℕ → ℕ
+rawPlace n = placeFrom 0 (map lower n) rawNames
+
 -- 6.6: a CDATA section begins with `<![CDATA[`; what follows `<![`
 unfoldable pub cdataPrefix : List ℕ
 cdataPrefix = bytes "CDATA["

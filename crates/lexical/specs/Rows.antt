@@ -6,7 +6,7 @@ use mathlib.Core.List.{List, [], _∷_}
 use lib.Dec.{eqb}
 use Rattle.lexical.specs.Text.{bytes, run}
 use Rattle.lexical.specs.Line.{lineEnding, endsLine, lineEndings, lines, isBlank}
-use Rattle.lexical.specs.Name.{all, blockNames, rawNames, sameBytes, isMember, isBlockName, isRawName}
+use Rattle.lexical.specs.Name.{all, blockNames, rawNames, sameBytes, isMember, isBlockName, isRawName, placeFrom, blockPlace, rawPlace}
 use Rattle.lexical.specs.Point.{point, tabReadings, tabRead, Action, lastReading, earlierReading, skipped, noByte, actionAt, moved}
 use Rattle.lexical.specs.declared.event.Point.{Point}
 
@@ -27,7 +27,7 @@ abbrev pub readAs : ℕ → List ℕ → List ℕ → Bool
 readAs column s t = sameBytes (reads 5 (point 1 column 0 0) s) t
 
 unfoldable pub rows : List Bool
-unfolding tabReadings tabRead actionAt moved sameBytes isMember blockNames rawNames isBlockName isRawName lineEnding endsLine lineEndings lines isBlank run
+unfolding tabReadings tabRead actionAt moved sameBytes isMember blockNames rawNames isBlockName isRawName placeFrom blockPlace rawPlace lineEnding endsLine lineEndings lines isBlank run
 rows =
     -- (P) a tab at column 1 has four readings, at column 4 one
     eqb (tabReadings 1) 4 ∷
@@ -45,6 +45,13 @@ rows =
     isBlockName (bytes "bLockQuote") ∷
     isRawName (bytes "SCRIPT") ∷
     not (isRawName (bytes "scripts")) ∷
+    -- 02, Ask 1: the first and the last of each list, and no name of it
+    eqb (blockPlace (bytes "Address")) 0 ∷
+    eqb (blockPlace (bytes "ul")) 61 ∷
+    eqb (rawPlace (bytes "PRE")) 0 ∷
+    eqb (rawPlace (bytes "textarea")) 3 ∷
+    eqb (blockPlace (bytes "pre")) 255 ∷
+    eqb (rawPlace (bytes "div")) 255 ∷
     -- one line more than line endings; CR LF is one
     eqb (lines []) 1 ∷
     eqb (lines (bytes "a\r\nb\rc\n")) 4 ∷

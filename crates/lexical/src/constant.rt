@@ -1,12 +1,13 @@
 // constant.rs: names, the CDATA prefix and sizes.
 ghost use mathlib.Core.Path.{_≡_};
 ghost use mathlib.Core.List.{map};
+ghost use Prim.Native.Nat.{_+_, _≤_};
 ghost use mathlib.Core.Bool.{true};
 ghost use lib.Dec.{ltb};
 ghost use lib.ListN.{length, drop};
 ghost use Rattle.lexical.specs.Text.{limit};
 ghost use Rattle.lexical.specs.Byte.{lower};
-ghost use Rattle.lexical.specs.Name.{sameBytes, isMember, isBlockName, isRawName, blockNames, rawNames, nameBytes, nameOffsets, cut, rising, cdataPrefix, cdataLetters};
+ghost use Rattle.lexical.specs.Name.{sameBytes, unnamed, placeFrom, blockPlace, rawPlace, blockNames, rawNames, nameBytes, nameOffsets, cut, rising, cdataPrefix, cdataLetters};
 use crate::byte::to_ascii_lowercase;
 
 // The names that open an HTML block of kind 6, end to end, and where each begins; the last offset is where the last name ends.
@@ -84,6 +85,9 @@ const HTML_RAW_NAMES: [u8; 22] = *b"prescriptstyletextarea";
 
 const HTML_RAW_OFFSETS: [usize; 5] = [0, 3, 9, 14, 22];
 
+// The place of what is no name of a list.
+pub const NO_NAME: u8 = 255;
+
 // The length of the longest raw name.
 pub const HTML_RAW_SIZE_MAX: usize = 8;
 
@@ -116,21 +120,25 @@ fn same_lower(name: &[u8], part: &[u8]) -> bool
     true
 }
 
-// Whether the name, in lower case, is one of those that the offsets cut from the table: the names of a whole list or of a part of it.
-fn is_member(name: &[u8], table: &[u8], offsets: &[usize]) -> bool
+// The place of the name, in lower case, among those that the offsets cut from the table: the names of a whole list, or of a part of it whose first name has the
+// place that is passed in.
+fn place_of(name: &[u8], table: &[u8], offsets: &[usize], first: u8) -> u8
     requires { ⌜ rising (length (now table)) (now offsets) ≡ true ⌝ }
-    ensures { λ r. ⌜ r ≡ isMember (map lower (now (name .entry))) (cut (now (table .entry)) (now (offsets .entry))) ⌝ }
+    requires { ⌜ first + length (now offsets) ≤ unnamed ⌝ }
+    ensures { λ r. ⌜ r ≡ placeFrom first (map lower (now (name .entry))) (cut (now (table .entry)) (now (offsets .entry))) ⌝ }
 {
+    let mut place = first;
     let mut k = 0;
     while k + 1 < offsets.len() {
         let start = offsets[k];
         let end = offsets[k + 1];
         if same_lower(name, &table[start..end]) {
-            return true;
+            return place;
         }
+        place += 1;
         k += 1;
     }
-    false
+    NO_NAME
 }
 
 fn block_names() -> [u8; 294]
@@ -157,22 +165,22 @@ fn raw_offsets() -> [usize; 5]
     HTML_RAW_OFFSETS
 }
 
-// Whether the bytes are one of the 62 block names, letter case ignored.
-pub fn is_block_name(name: &[u8]) -> bool
-    ensures { λ r. ⌜ r ≡ isBlockName (now (name .entry)) ⌝ }
+// The place of the bytes among the 62 block names, letter case ignored.
+pub fn block_place(name: &[u8]) -> u8
+    ensures { λ r. ⌜ r ≡ blockPlace (now (name .entry)) ⌝ }
 {
     let table = block_names();
     let offsets = block_offsets();
-    is_member(name, &table, &offsets)
+    place_of(name, &table, &offsets, 0)
 }
 
-// Whether the bytes are one of the 4 raw names, letter case ignored.
-pub fn is_raw_name(name: &[u8]) -> bool
-    ensures { λ r. ⌜ r ≡ isRawName (now (name .entry)) ⌝ }
+// The place of the bytes among the 4 raw names, letter case ignored.
+pub fn raw_place(name: &[u8]) -> u8
+    ensures { λ r. ⌜ r ≡ rawPlace (now (name .entry)) ⌝ }
 {
     let table = raw_names();
     let offsets = raw_offsets();
-    is_member(name, &table, &offsets)
+    place_of(name, &table, &offsets, 0)
 }
 
 fn cdata_prefix() -> [u8; 6]

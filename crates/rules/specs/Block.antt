@@ -6,7 +6,7 @@ use lib.Dec.{eqb, leb}
 use lib.ListN.{length, take, drop}
 use Rattle.lexical.specs.Text.{byte, bytes, first, run}
 use Rattle.lexical.specs.Byte.{isLetter, isTagNameByte, isSpaceOrTab}
-use Rattle.lexical.specs.Name.{isBlockName, isRawName}
+use Rattle.lexical.specs.Name.{isBlockName, isRawName, unnamed, blockPlace, rawPlace}
 use Rattle.lexical.specs.Line.{isBlank, atLineEnd}
 use Rattle.rules.specs.Search.{choose, begins, somewhere, Left, left, nothing}
 use Rattle.rules.specs.Tag.{blockTags, openTag, closingTag}
@@ -70,6 +70,19 @@ indentation s = run (λ b. eqb b (byte " ")) s
 unfoldable pub kindOf : Rules → Line → ℕ
 kindOf ρ l =
     choose (leb (indentation (l .content)) 3) (λ _. kindAt ρ (l .flag) (drop (indentation (l .content)) (l .content))) (λ _. 0)
+
+-- ---- 02, Ask 1: which name it was
+-- the place of a name in the list of kind 1 or 6, counted from 0; other kinds carry 255
+abbrev pub placeIn : ℕ → List ℕ → ℕ
+placeIn k n = choose (eqb k 1) (λ _. rawPlace n) (λ _. choose (eqb k 6) (λ _. blockPlace n) (λ _. unnamed))
+
+-- the tag name behind `</` or `<`
+abbrev pub tagName : List ℕ → List ℕ
+tagName s = choose (begins (bytes "</") s) (λ _. nameOf (drop 2 s)) (λ _. nameOf (drop 1 s))
+
+-- of a line that opens kind k
+unfoldable pub placeOf : ℕ → Line → ℕ
+placeOf k l = placeIn k (tagName (drop (indentation (l .content)) (l .content)))
 
 -- ---- end conditions
 -- 1: an end tag with a raw name, which need not be the start tag's

@@ -44,22 +44,35 @@ texts =
 unfoldable pub blocks : List Bool
 blocks =
     -- F1: behind another byte a run of `]` begins anew; an empty one does not close
-    blockRow (bytes "<![CDATA[]x]>") (0 ∷ []) (foundBlock (found 5 13 false))
-    ∷ blockRow (bytes "<![CDATA[>") (0 ∷ []) (foundBlock (found 5 10 false))
+    blockRow (bytes "<![CDATA[]x]>") (0 ∷ []) (foundBlock (found 5 255 13 false))
+    ∷ blockRow (bytes "<![CDATA[>") (0 ∷ []) (foundBlock (found 5 255 10 false))
     -- a raw end tag has its `>` right behind the name
-    ∷ blockRow (bytes "<pre>\n</pre x>") (0 ∷ 0 ∷ []) (foundBlock (found 1 14 false))
+    ∷ blockRow (bytes "<pre>\n</pre x>") (0 ∷ 0 ∷ []) (foundBlock (found 1 0 14 false))
     -- a lazy line ends every kind, also where it may interrupt
-    ∷ blockRow (bytes "<!--\nx") (0 ∷ 1 ∷ []) (foundBlock (found 2 4 false))
-    ∷ blockRow (bytes "<!--\nx") (0 ∷ 3 ∷ []) (foundBlock (found 2 4 false))
-    ∷ blockRow (bytes "<!--\nx") (0 ∷ 2 ∷ []) (foundBlock (found 2 6 false))
+    ∷ blockRow (bytes "<!--\nx") (0 ∷ 1 ∷ []) (foundBlock (found 2 255 4 false))
+    ∷ blockRow (bytes "<!--\nx") (0 ∷ 3 ∷ []) (foundBlock (found 2 255 4 false))
+    ∷ blockRow (bytes "<!--\nx") (0 ∷ 2 ∷ []) (foundBlock (found 2 255 6 false))
     -- a tab ends a name
-    ∷ blockRow (bytes "<div\tx") (0 ∷ []) (foundBlock (found 6 6 false))
-    ∷ blockRow (bytes "<pre\tx") (0 ∷ []) (foundBlock (found 1 6 false))
+    ∷ blockRow (bytes "<div\tx") (0 ∷ []) (foundBlock (found 6 15 6 false))
+    ∷ blockRow (bytes "<pre\tx") (0 ∷ []) (foundBlock (found 1 0 6 false))
     -- kind 6 in a closing tag, and before `/>`
-    ∷ blockRow (bytes "</div>x") (0 ∷ []) (foundBlock (found 6 7 false))
-    ∷ blockRow (bytes "<div/>x") (0 ∷ []) (foundBlock (found 6 7 false))
+    ∷ blockRow (bytes "</div>x") (0 ∷ []) (foundBlock (found 6 15 7 false))
+    ∷ blockRow (bytes "<div/>x") (0 ∷ []) (foundBlock (found 6 15 7 false))
     -- a line's own flag
-    ∷ sameBlock (blockScan crate (bytes "a\n<a>") (2 ∷ 0 ∷ []) 2) (foundBlock (found 7 5 false))
+    ∷ sameBlock (blockScan crate (bytes "a\n<a>") (2 ∷ 0 ∷ []) 2) (foundBlock (found 7 255 5 false))
+    ∷ []
+
+-- 02, Ask 1: which name it was
+unfoldable pub names : List Bool
+names =
+    -- the first and the last but one of the 62, letter case ignored
+    blockRow (bytes "<address") (0 ∷ []) (foundBlock (found 6 0 8 false))
+    ∷ blockRow (bytes "</TRACK/>") (0 ∷ []) (foundBlock (found 6 60 9 false))
+    -- behind the indentation; the list of kind 1 is another
+    ∷ blockRow (bytes " <TextArea>") (0 ∷ []) (foundBlock (found 1 3 11 false))
+    -- a raw name in a closing tag, and before `/>`, is of kind 7
+    ∷ blockRow (bytes "</pre>") (0 ∷ []) (foundBlock (found 7 255 6 false))
+    ∷ blockRow (bytes "<pre/>") (0 ∷ []) (foundBlock (found 7 255 6 false))
     ∷ []
 
 -- refusals: the first that applies, down the table
@@ -87,8 +100,8 @@ outputs =
     ∷ sameBytes (written 7 (bytes "ac") (bytes "xyz")) (bytes "xyz")
     ∷ []
 
-pub corners-hold : all (λ b. b) (texts ++ (blocks ++ (refusals ++ outputs))) ≡ true
-unfolding computing texts blocks refusals outputs
+pub corners-hold : all (λ b. b) (texts ++ (blocks ++ (names ++ (refusals ++ outputs)))) ≡ true
+unfolding computing texts blocks names refusals outputs
 corners-hold = refl
 
 -- 1 comes before all others, from the first byte over the limit on

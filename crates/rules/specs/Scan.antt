@@ -8,7 +8,7 @@ use Rattle.lexical.specs.Line.{lineEndings}
 use Rattle.rules.specs.Search.{choose}
 use Rattle.rules.specs.Inline.{Read, takes, lacks, readInline}
 use Rattle.rules.specs.Lines.{Line, linesOf}
-use Rattle.rules.specs.Block.{Extent, kindOf, extentOf, stopAfter}
+use Rattle.rules.specs.Block.{Extent, kindOf, placeOf, extentOf, stopAfter}
 use Rattle.rules.specs.Refusal.{inlineRefusal, blockRefusal}
 use Rattle.rules.specs.declared.Rules.{Rules}
 
@@ -33,14 +33,15 @@ refuseInline n k a = choose (eqb n 0) (λ _. a) (λ _. refusedInline n k)
 unfoldable pub inlineScan : Rules → List ℕ → ℕ → ℕ → InlineAnswer
 inlineScan ρ text i k = refuseInline (inlineRefusal text i k) k (inlineAt ρ text i k)
 
--- a found block: its kind, its stop, and whether a closer was met
+-- a found block: its kind, the place of its name, its stop, and whether a closer was met
 pub record Found : Type 0 where
   pub kind : ℕ
+  pub name : ℕ
   pub stop : ℕ
   pub closed : Bool
 
-abbrev pub found : ℕ → ℕ → Bool → Found
-found k s c = record { kind = k; stop = s; closed = c }
+abbrev pub found : ℕ → ℕ → ℕ → Bool → Found
+found k n s c = record { kind = k; name = n; stop = s; closed = c }
 
 -- found, or none
 pub data BlockAnswer : Type 0 where
@@ -50,7 +51,7 @@ pub data BlockAnswer : Type 0 where
 
 -- the block of kind k and extent e whose first line begins at i
 abbrev pub blockFound : ℕ → ℕ → Line → List Line → Extent → Found
-blockFound k i l ls e = found k (stopAfter i (e .lines) (l ∷ ls)) (e .closed)
+blockFound k i l ls e = found k (placeOf k l) (stopAfter i (e .lines) (l ∷ ls)) (e .closed)
 
 -- the block that the first line opens, which begins at i
 unfoldable pub blockOf : Rules → ℕ → List Line → BlockAnswer
