@@ -15,8 +15,8 @@ use Rattle.lexical.proofs.Cases.{split}
 use Rattle.lexical.proofs.Suffix.{suffix-in, suffix-out, suffix-next}
 use Rattle.lexical.proofs.Ending.{ending-out}
 use Rattle.rules.specs.Lines.{Line, line, flagged, linesOf}
-use Rattle.rules.specs.Block.{endsBefore, closes, goesOn, kindOf, extentOf, stopAfter}
-use Rattle.rules.specs.Scan.{found, BlockAnswer, foundBlock, noBlock, blockFound, blockOf}
+use Rattle.rules.specs.Block.{Extent, endsBefore, closes, goesOn, kindOf, placeOf, extentOf, stopAfter}
+use Rattle.rules.specs.Scan.{found, BlockAnswer, foundBlock, noBlock, blockOf}
 use Rattle.rules.specs.declared.Rules.{Rules}
 use Rattle.rules.proofs.Cut.{behind, behind-none, content-length, lead-length, to-within, lineFrom, lineTo}
 use Rattle.rules.proofs.LineLaws.{contentFrom, stopFrom, stop-is, first-line, next-lines}
@@ -42,20 +42,20 @@ module _ (f : ℕ → Bool) (s : List ℕ) (i : ℕ) where
   all-out h = rw (suffix-out s i h)
 
 -- ---- the next line of an open block
-module _ (ρ : Rules) (k : ℕ) where
+module _ (ρ : Rules) (k name : ℕ) where
   abbrev pub goingOn : ℕ → List Line → BlockAnswer
-  goingOn stop ls = wentOn k stop ls (goesOn ρ k ls)
+  goingOn stop ls = wentOn k name stop ls (goesOn ρ k ls)
 
-  pub none-left : (stop : ℕ) → goingOn stop [] ≡ foundBlock (found k stop false)
+  pub none-left : (stop : ℕ) → goingOn stop [] ≡ foundBlock (found k name stop false)
   unfolding goesOn stopFrom
   none-left stop = refl
 
   module _ (stop : ℕ) (l : Line) (ls : List Line) where
-    pub ended : endsBefore k l ≡ true → goingOn stop (l ∷ ls) ≡ foundBlock (found k stop false)
+    pub ended : endsBefore k l ≡ true → goingOn stop (l ∷ ls) ≡ foundBlock (found k name stop false)
     unfolding goesOn stopFrom
     ended h = rw h
 
-    pub closed-here : endsBefore k l ≡ false → closes ρ k (l .content) ≡ true → goingOn stop (l ∷ ls) ≡ foundBlock (found k (stop + length (l .lead) + length (l .content)) true)
+    pub closed-here : endsBefore k l ≡ false → closes ρ k (l .content) ≡ true → goingOn stop (l ∷ ls) ≡ foundBlock (found k name (stop + length (l .lead) + length (l .content)) true)
     unfolding goesOn stopFrom
     closed-here h c = rw (h, c)
 
@@ -64,10 +64,10 @@ module _ (ρ : Rules) (k : ℕ) where
     one-on h c = rw (h, c)
 
 -- ---- the same at an index of a text
-module _ (ρ : Rules) (k : ℕ) (s flags : List ℕ) (i n : ℕ) where
-  pub no-line : lineEnding (drop i s) ≡ 0 → continuationStartOf ρ k s flags i n ≡ foundBlock (found k i false)
+module _ (ρ : Rules) (k name : ℕ) (s flags : List ℕ) (i n : ℕ) where
+  pub no-line : lineEnding (drop i s) ≡ 0 → continuationStartOf ρ k name s flags i n ≡ foundBlock (found k name i false)
   unfolding continuationStartOf flagged
-  no-line e = rw (behind-none s i e) (none-left ρ k i)
+  no-line e = rw (behind-none s i e) (none-left ρ k name i)
 
   -- the next line as the code reads it: where it begins, its flag and its content
   module _ (from f : ℕ) (content : List ℕ) (a : from ≡ lineFrom s i) (d : content ≡ contentFrom s from) (g : f ≡ getD (drop n flags) 0 0) (h : from ≡ i → ⊥) where
@@ -99,26 +99,26 @@ module _ (ρ : Rules) (k : ℕ) (s flags : List ℕ) (i n : ℕ) where
     pub next-stop : i + length lead + length content ≡ to
     next-stop = omega (arith, a, lead-length s i)
 
-    pub line-ends : endsBefore k (line f [] content) ≡ true → continuationStartOf ρ k s flags i n ≡ foundBlock (found k i false)
+    pub line-ends : endsBefore k (line f [] content) ≡ true → continuationStartOf ρ k name s flags i n ≡ foundBlock (found k name i false)
     unfolding continuationStartOf
-    line-ends e = ap (goingOn ρ k i) next-line ∙ ended ρ k i next rest e
+    line-ends e = ap (goingOn ρ k name i) next-line ∙ ended ρ k name i next rest e
 
-    pub line-closes : endsBefore k (line f [] content) ≡ false → closes ρ k content ≡ true → continuationStartOf ρ k s flags i n ≡ foundBlock (found k to true)
+    pub line-closes : endsBefore k (line f [] content) ≡ false → closes ρ k content ≡ true → continuationStartOf ρ k name s flags i n ≡ foundBlock (found k name to true)
     unfolding continuationStartOf
-    line-closes e c = ap (goingOn ρ k i) next-line ∙ closed-here ρ k i next rest e c ∙ ap (λ t. foundBlock (found k t true)) next-stop
+    line-closes e c = ap (goingOn ρ k name i) next-line ∙ closed-here ρ k name i next rest e c ∙ ap (λ t. foundBlock (found k name t true)) next-stop
 
     pub line-on : endsBefore k (line f [] content) ≡ false → closes ρ k content ≡ false → (m : ℕ) → drop m flags ≡ drop 1 (drop n flags)
-        → continuationStartOf ρ k s flags i n ≡ continuationStartOf ρ k s flags to m
+        → continuationStartOf ρ k name s flags i n ≡ continuationStartOf ρ k name s flags to m
     unfolding continuationStartOf
     line-on e c m r =
-        ap (goingOn ρ k i) next-line ∙ one-on ρ k i next rest e c
-        ∙ ap (λ t. goingOn ρ k t rest) next-stop ∙ ap (λ t. goingOn ρ k to (flagged t (behind (drop to s)))) (sym r)
+        ap (goingOn ρ k name i) next-line ∙ one-on ρ k name i next rest e c
+        ∙ ap (λ t. goingOn ρ k name t rest) next-stop ∙ ap (λ t. goingOn ρ k name to (flagged t (behind (drop to s)))) (sym r)
 
   -- the text ends here, or no line ending stands here
-  pub text-over : length s ≤ i → continuationStartOf ρ k s flags i n ≡ foundBlock (found k i false)
+  pub text-over : length s ≤ i → continuationStartOf ρ k name s flags i n ≡ foundBlock (found k name i false)
   text-over h = no-line (ending-out s i h)
 
-  pub same-from : (from : ℕ) → from ≡ lineFrom s i → from ≡ i → continuationStartOf ρ k s flags i n ≡ foundBlock (found k i false)
+  pub same-from : (from : ℕ) → from ≡ lineFrom s i → from ≡ i → continuationStartOf ρ k name s flags i n ≡ foundBlock (found k name i false)
   same-from from a e = no-line (omega (arith, a, e))
 
 -- the next line ends within the text
@@ -162,22 +162,25 @@ module _ (ρ : Rules) (s flags : List ℕ) (i n : ℕ) (to f : ℕ) (content : L
   unfolding blockOf
   no-block e = ap (blockOf ρ i) all-lines ∙ rw e refl
 
-  module _ (k : ℕ) (e : kindOf ρ (line f [] content) ≡ k) (z : eqb k 0 ≡ false) where
-    opened : blockAnswerAt ≡ foundBlock (blockFound k i firstLine others (extentOf ρ k firstLine others))
+  module _ (k name : ℕ) (e : kindOf ρ (line f [] content) ≡ k) (w : name ≡ placeOf k (line f [] content)) (z : eqb k 0 ≡ false) where
+    abbrev x : Extent
+    x = extentOf ρ k firstLine others
+
+    opened : blockAnswerAt ≡ foundBlock (found k name (stopAfter i (x .lines) (firstLine ∷ others)) (x .closed))
     unfolding blockOf
-    opened = ap (blockOf ρ i) all-lines ∙ rw (e, z) refl
+    opened = ap (blockOf ρ i) all-lines ∙ rw (e, z) (ap (λ t. foundBlock (found k t (stopAfter i (x .lines) (firstLine ∷ others)) (x .closed))) (sym w))
 
-    pub first-closes : closes ρ k content ≡ true → blockAnswerAt ≡ foundBlock (found k to true)
+    pub first-closes : closes ρ k content ≡ true → blockAnswerAt ≡ foundBlock (found k name to true)
     unfolding extentOf stopAfter
-    first-closes c = opened ∙ rw c (ap (λ t. foundBlock (found k t true)) stopped)
+    first-closes c = opened ∙ rw c (ap (λ t. foundBlock (found k name t true)) stopped)
 
-    pub first-on : closes ρ k content ≡ false → (m : ℕ) → drop m flags ≡ drop 1 (drop n flags) → blockAnswerAt ≡ continuationStartOf ρ k s flags to m
+    pub first-on : closes ρ k content ≡ false → (m : ℕ) → drop m flags ≡ drop 1 (drop n flags) → blockAnswerAt ≡ continuationStartOf ρ k name s flags to m
     unfolding extentOf continuationStartOf
     first-on c m r =
         opened ∙ rw c
-        (ap (λ t. foundBlock (found k t (goesOn ρ k others .closed))) (stop-is (goesOn ρ k others .lines) i firstLine others)
-        ∙ ap (λ t. wentOn k t others (goesOn ρ k others)) stopped
-        ∙ ap (λ t. wentOn k to (flagged t (behind (drop to s))) (goesOn ρ k (flagged t (behind (drop to s))))) (sym r))
+        (ap (λ t. foundBlock (found k name t (goesOn ρ k others .closed))) (stop-is (goesOn ρ k others .lines) i firstLine others)
+        ∙ ap (λ t. wentOn k name t others (goesOn ρ k others)) stopped
+        ∙ ap (λ t. wentOn k name to (flagged t (behind (drop to s))) (goesOn ρ k (flagged t (behind (drop to s))))) (sym r))
 
 -- every kind has a number
 pub has-number : (kind : Kind) → eqb (kindNumber kind) 0 ≡ false

@@ -15,12 +15,14 @@ use Rattle.lexical.proofs.Cases.{split, excluded, and-yes}
 use Rattle.lexical.proofs.Suffix.{suffix-in, suffix-out, first-in}
 use Rattle.rules.specs.Search.{choose, begins}
 use Rattle.rules.specs.Tag.{blockTags, attributes}
-use Rattle.rules.specs.Block.{nameOf, afterName, fillsLine, mayStart, kindAt, kindOf, indentation}
+use Rattle.rules.specs.Block.{nameOf, afterName, fillsLine, mayStart, kindAt, kindOf, indentation, placeIn, tagName}
 use Rattle.rules.specs.Lines.{Line, line}
 use Rattle.rules.specs.declared.Rules.{Rules}
 use Rattle.rules.proofs.Cut.{space-apart}
+use Rattle.flow.specs.Answer.{openingNumber}
+use Rattle.flow.specs.declared.html_flow.Opening.{Opening}
 use Rattle.flow.specs.CompleteMachine.{runOf}
-use Rattle.flow.specs.OpenMachine.{selfClosingOf, completesOf, completeOf, tagNameOf, commentOpenOf, declarationOpenOf, tagCloseStartOf, openOf}
+use Rattle.flow.specs.OpenMachine.{selfClosingOf, completesOf, completeOf, tagNameOf, commentOpenOf, declarationOpenOf, tagCloseStartOf, openOf, Names}
 use Rattle.flow.specs.declared.tokenizer.StateName.the-variants.{CompleteClosingTagAfter, CompleteAttributeValueQuotedAfter}
 use Rattle.flow.proofs.CompleteMeans.{open-is, close-is}
 use Rattle.flow.proofs.OpenMeans.{kind-is, not-opened, nothing-opened}
@@ -46,6 +48,10 @@ module _ (ρ : Rules) (f : ℕ) (a : List ℕ) where
 
   pub raw-tag : (raw : Bool) → mayStart ρ f ≡ true → (ρ .f3 || not raw) ≡ false → completeOf ρ f false raw a ≡ 0
   raw-tag raw m t = by-bits false raw false m (ap (λ x. x && fillsLine (attributes (blockTags ρ) (suc (length a)) a)) t)
+
+-- ---- the name that an opening carries
+pub renamed : (r : Opening) (m n : List ℕ) → m ≡ n → Names r m → Names r n
+renamed r m n e h = h ∙ ap (placeIn (openingNumber r)) e
 
 -- ---- behind a name
 module _ (line : List ℕ) (i : ℕ) where
@@ -102,6 +108,16 @@ module _ (line : List ℕ) (i : ℕ) where
   unfolding declarationOpenOf
   declaration-other h e l g = rw (suffix-in line i h, ne-eqb b (byte "-") e, l, ne-eqb b (byte "[") g)
 
+  -- the tag name behind `</` and behind `<`
+  pub name-slash : i < length line → b ≡ byte "/" → tagName (byte "<" ∷ drop i line) ≡ nameOf rest
+  name-slash h e = rw (suffix-in line i h, e)
+
+  pub name-here : i < length line → (b ≡ byte "/" → ⊥) → tagName (byte "<" ∷ drop i line) ≡ nameOf (drop i line)
+  name-here h e = rw (suffix-in line i h, ne-eqb b (byte "/") e)
+
+  pub marked : i < length line → b ≡ byte "<" → drop i line ≡ byte "<" ∷ rest
+  marked h e = suffix-in line i h ∙ ap (λ x. x ∷ rest) e
+
   module _ (ρ : Rules) (f : ℕ) where
     pub close-out : length line ≤ i → tagCloseStartOf ρ f (drop i line) ≡ 0
     unfolding tagCloseStartOf
@@ -141,7 +157,7 @@ module _ (line : List ℕ) (i : ℕ) where
     before-other h e = ap (kindAt ρ f) (suffix-in line i h) ∙ not-opened ρ f b rest (ne-eqb b (byte "<") e)
 
     pub before-in : i < length line → b ≡ byte "<" → kindAt ρ f (drop i line) ≡ openOf ρ f rest
-    before-in h e = ap (kindAt ρ f) (suffix-in line i h ∙ ap (λ x. x ∷ rest) e) ∙ kind-is ρ f rest
+    before-in h e = ap (kindAt ρ f) (marked h e) ∙ kind-is ρ f rest
 
 -- ---- the indentation
 module _ (ρ : Rules) (l : Line) where

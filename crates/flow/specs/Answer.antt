@@ -1,5 +1,6 @@
 -- What the answers of the block scan say, by 01's numbers and values for each case.
 use Prim.Native.Nat.{ℕ}
+use Rattle.lexical.specs.Name.{unnamed}
 use Rattle.rules.specs.Scan.{found, BlockAnswer, foundBlock, noBlock, refusedBlock}
 use Rattle.flow.specs.declared.html_flow.Kind.{Kind}
 use Rattle.flow.specs.declared.html_flow.Kind.the-variants.{Raw, Comment, Instruction, Declaration, Cdata, Basic, Complete}
@@ -21,10 +22,15 @@ kindNumber Complete = 7
 -- the kind that a line opens, or 0
 abbrev pub openingNumber : Opening → ℕ
 openingNumber Shut = 0
-openingNumber (Opens kind) = kindNumber kind
+openingNumber (Opens kind name) = kindNumber kind
 
--- found with kind, stop and whether a closer was met; none; a refusal with its number
+-- the place of its name
+abbrev pub openingName : Opening → ℕ
+openingName Shut = unnamed
+openingName (Opens kind name) = name
+
+-- found with kind, name, stop and whether a closer was met; none; a refusal with its number
 abbrev pub blockAnswerOf : Block → BlockAnswer
-blockAnswerOf (Found b) = foundBlock (found (kindNumber (b .kind)) (b .stop) (b .closed))
+blockAnswerOf (Found b) = foundBlock (found (kindNumber (b .kind)) (b .name) (b .stop) (b .closed))
 blockAnswerOf Missing = noBlock
 blockAnswerOf (Refused refusal) = refusedBlock refusal

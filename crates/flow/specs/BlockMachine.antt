@@ -13,13 +13,13 @@ use Rattle.rules.specs.declared.Rules.{Rules}
 use Rattle.rules.proofs.Cut.{behind}
 use Rattle.rules.proofs.LineLaws.{stopFrom}
 
-abbrev pub wentOn : ℕ → ℕ → List Line → Extent → BlockAnswer
-wentOn k stop ls e = foundBlock (found k (stopFrom stop (e .lines) ls) (e .closed))
+abbrev pub wentOn : ℕ → ℕ → ℕ → List Line → Extent → BlockAnswer
+wentOn k name stop ls e = foundBlock (found k name (stopFrom stop (e .lines) ls) (e .closed))
 
--- an open block of kind k whose content so far ends at stop; number is the next line's
-unfoldable pub continuationStartOf : Rules → ℕ → List ℕ → List ℕ → ℕ → ℕ → BlockAnswer
-continuationStartOf ρ k text flags stop number =
-    wentOn k stop (flagged (drop number flags) (behind (drop stop text))) (goesOn ρ k (flagged (drop number flags) (behind (drop stop text))))
+-- an open block of kind k, with the place of its name, whose content so far ends at stop; number is the next line's
+unfoldable pub continuationStartOf : Rules → ℕ → ℕ → List ℕ → List ℕ → ℕ → ℕ → BlockAnswer
+continuationStartOf ρ k name text flags stop number =
+    wentOn k name stop (flagged (drop number flags) (behind (drop stop text))) (goesOn ρ k (flagged (drop number flags) (behind (drop stop text))))
 
 -- a blank line ends kinds 6 and 7
 abbrev pub blankLineBefore : ℕ → List ℕ → Bool

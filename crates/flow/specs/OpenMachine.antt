@@ -1,16 +1,19 @@
 -- The openings of html_flow.rt, in the order of the code: the kind of a line from its tag's name on. It need not be believed: no public contract cites it, and
 -- proofs/OpenMeans.antt shows that it is the kind of the rules.
 use Prim.Native.Nat.{ℕ, suc}
+use mathlib.Core.Path.{_≡_}
 use mathlib.Core.Bool.{Bool, true, false, _&&_, _||_, not}
 use mathlib.Core.List.{List}
 use lib.ListN.{drop, length}
 use Rattle.lexical.specs.Text.{bytes, first}
 use Rattle.lexical.specs.Byte.{isLetter, isWhitespace, isNameBreak}
-use Rattle.lexical.specs.Name.{isBlockName, isRawName}
+use Rattle.lexical.specs.Name.{isBlockName, isRawName, blockPlace}
 use Rattle.rules.specs.Search.{choose, begins, past, exactly}
 use Rattle.rules.specs.Tag.{blockTags, attributes}
-use Rattle.rules.specs.Block.{nameOf, afterName, fillsLine, mayStart}
+use Rattle.rules.specs.Block.{nameOf, afterName, fillsLine, mayStart, placeIn}
 use Rattle.rules.specs.declared.Rules.{Rules}
+use Rattle.flow.specs.Answer.{openingNumber, openingName}
+use Rattle.flow.specs.declared.html_flow.Opening.{Opening}
 
 -- a block name, then `/`: only before `>`
 unfoldable pub selfClosingOf : List ℕ → ℕ
@@ -54,3 +57,16 @@ openOf ρ f s =
     (λ _. choose (begins (bytes "/") s) (λ _. tagCloseStartOf ρ f (drop 1 s))
     (λ _. choose (begins (bytes "?") s) (λ _. 3)
     (λ _. choose (isLetter (first s)) (λ _. tagNameOf ρ f false (nameOf s) (afterName s)) (λ _. 0))))
+
+-- ---- the name that an opening carries
+-- it is the place of n in the list of its kind
+abbrev pub Names : Opening → List ℕ → Type 0
+Names r n = openingName r ≡ placeIn (openingNumber r) n
+
+-- its kind has no list, so this holds of every n
+abbrev pub Unnamed : Opening → Type 0
+Unnamed r = (n : List ℕ) → Names r n
+
+-- it has no list, or the place passed in is that of n among the block names
+abbrev pub NamesBasic : Opening → ℕ → Type 0
+NamesBasic r name = (n : List ℕ) → name ≡ blockPlace n → Names r n

@@ -11,20 +11,20 @@ ghost use Rattle.flow.specs.Answer.{kindNumber};
 ghost use Rattle.flow.specs.ContinuationMachine.{continuationOf, commentInsideOf, cdataInsideOf, stays, declarationInsideOf, nextOf, isClose, isContinuation, closerStart, meetsOf, rawEndOf};
 ghost use Rattle.flow.specs.declared.html_flow.ContinuationName.the-variants.{Continuation, ContinuationClose};
 ghost use Prim.Native.Nat.{_+_};
-ghost use Rattle.lexical.specs.Text.{run};
+ghost use Rattle.lexical.specs.Text.{run, byte};
 ghost use Rattle.lexical.specs.Byte.{isTagNameByte};
-ghost use mathlib.Core.List.{[]};
+ghost use mathlib.Core.List.{[], _∷_};
 ghost use Rattle.lexical.specs.Name.{cdataPrefix};
 ghost use Rattle.rules.specs.Search.{begins};
 ghost use Rattle.rules.specs.Lines.{line as lineOf};
-ghost use Rattle.rules.specs.Block.{nameOf as tagNameIn, afterName, mayStart, kindAt, kindOf};
-ghost use Rattle.flow.specs.Answer.{openingNumber, blockAnswerOf};
+ghost use Rattle.rules.specs.Block.{nameOf as tagNameIn, afterName, mayStart, kindAt, kindOf, tagName, placeOf};
+ghost use Rattle.flow.specs.Answer.{openingNumber, openingName, blockAnswerOf};
 ghost use Rattle.rules.specs.Block.{endsBefore};
 ghost use Rattle.rules.specs.Scan.{found, foundBlock};
 ghost use Rattle.rules.proofs.Cut.{lineFrom};
 ghost use Rattle.flow.specs.BlockMachine.{blankLineBefore, continuationStartOf};
 ghost use Rattle.rules.proofs.LineLaws.{contentFrom};
-ghost use Rattle.flow.specs.OpenMachine.{selfClosingOf, completeOf, tagNameOf, tagCloseStartOf, commentOpenOf, declarationOpenOf, openOf};
+ghost use Rattle.flow.specs.OpenMachine.{selfClosingOf, completeOf, tagNameOf, tagCloseStartOf, commentOpenOf, declarationOpenOf, openOf, Names, Unnamed, NamesBasic};
 use crate::partial_non_lazy_continuation::flag_at;
 use crate::partial_non_lazy_continuation::is_lazy;
 use crate::partial_non_lazy_continuation::next_number;
@@ -49,9 +49,10 @@ use lexical::byte::is_whitespace;
 use lexical::byte::peek;
 use lexical::constant::HTML_CDATA_SIZE;
 use lexical::constant::HTML_RAW_SIZE_MAX;
+use lexical::constant::NO_NAME;
+use lexical::constant::block_place;
 use lexical::constant::cdata_letters;
-use lexical::constant::is_block_name;
-use lexical::constant::is_raw_name;
+use lexical::constant::raw_place;
 use lexical::line::is_blank;
 use lexical::line::line_end;
 use lexical::line::mark_or_line_end;
@@ -240,10 +241,10 @@ pub fn kind_number(kind: Kind) -> u8
     }
 }
 
-// What a line opens.
+// What a line opens, and the place of its name in the list of that kind.
 pub enum Opening {
     Shut,
-    Opens(Kind),
+    Opens { kind: Kind, name: u8 },
 }
 
 // Where a line of kinds 2 to 5 stands on the way to its closer.
@@ -458,7 +459,7 @@ fn continuation_raw_end_tag(line: &[u8], start: usize, at: usize, allowed: usize
     }
     let b = line[at];
     if b == b'>' {
-        return is_raw_name(from_indices(line, start, at));
+        return raw_place(from_indices(line, start, at)) != NO_NAME;
     }
     if is_letter(b) {
         if allowed > 0 {
@@ -544,13 +545,17 @@ fn may_start(rules: Rules, flag: u8) -> bool
 // After a tag's name that is neither raw nor a block name: a complete tag that fills the line. F3: raw names before a direct `/` too.
 fn complete(rules: Rules, line: &[u8], at: usize, closing: bool, raw: bool, flag: u8) -> Opening
     ensures { λ r. ⌜ openingNumber r ≡ completeOf rules flag closing raw (drop at (now (line .entry))) ⌝ }
+    ensures { λ r. ⌜ Unnamed r ⌝ }
 {
     if !may_start(rules, flag) {
         return Opening::Shut;
     }
     if closing {
         if run_complete(rules, line, at, StateName::CompleteClosingTagAfter) {
-            return Opening::Opens(Kind::Complete);
+            return Opening::Opens {
+                kind: Kind::Complete,
+                name: NO_NAME,
+            };
         }
         return Opening::Shut;
     }
@@ -561,7 +566,10 @@ fn complete(rules: Rules, line: &[u8], at: usize, closing: bool, raw: bool, flag
             at,
             StateName::CompleteAttributeValueQuotedAfter,
         ) {
-            return Opening::Opens(Kind::Complete);
+            return Opening::Opens {
+                kind: Kind::Complete,
+                name: NO_NAME,
+            };
         }
     }
     Opening::Shut
@@ -571,8 +579,9 @@ fn complete(rules: Rules, line: &[u8], at: usize, closing: bool, raw: bool, flag
 //
 //     <div/>
 //          ^
-fn basic_self_closing(line: &[u8], at: usize) -> Opening
+fn basic_self_closing(line: &[u8], at: usize, name: u8) -> Opening
     ensures { λ r. ⌜ openingNumber r ≡ selfClosingOf (drop at (now (line .entry))) ⌝ }
+    ensures { λ r. ⌜ NamesBasic r name ⌝ }
 {
     if at >= line.len() {
         return Opening::Shut;
@@ -581,7 +590,10 @@ fn basic_self_closing(line: &[u8], at: usize) -> Opening
         return Opening::Shut;
     }
     if peek(line, at + 1) == 62 {
-        return Opening::Opens(Kind::Basic);
+        return Opening::Opens {
+            kind: Kind::Basic,
+            name,
+        };
     }
     Opening::Shut
 }
@@ -592,24 +604,33 @@ fn basic_self_closing(line: &[u8], at: usize) -> Opening
 //      ^^
 fn tag_name(rules: Rules, line: &[u8], at: usize, closing: bool, flag: u8) -> Opening
     ensures { λ r. ⌜ openingNumber r ≡ tagNameOf rules flag closing (tagNameIn (drop at (now (line .entry)))) (afterName (drop at (now (line .entry)))) ⌝ }
+    ensures { λ r. ⌜ Names r (tagNameIn (drop at (now (line .entry)))) ⌝ }
 {
     let end = name_end(line, at);
     if !is_name_break(line, end) {
         return Opening::Shut;
     }
     let name = from_indices(line, at, end);
-    let raw = is_raw_name(name);
+    let raw = raw_place(name);
+    let is_raw = raw != NO_NAME;
     let slash = peek(line, end) == 47;
-    if raw & (!closing & !slash) {
-        return Opening::Opens(Kind::Raw);
+    if is_raw & (!closing & !slash) {
+        return Opening::Opens {
+            kind: Kind::Raw,
+            name: raw,
+        };
     }
-    if is_block_name(name) {
+    let basic = block_place(name);
+    if basic != NO_NAME {
         if slash {
-            return basic_self_closing(line, end);
+            return basic_self_closing(line, end, basic);
         }
-        return Opening::Opens(Kind::Basic);
+        return Opening::Opens {
+            kind: Kind::Basic,
+            name: basic,
+        };
     }
-    complete(rules, line, end, closing, raw, flag)
+    complete(rules, line, end, closing, is_raw, flag)
 }
 
 // After `</`: a closing tag's name.
@@ -618,6 +639,7 @@ fn tag_name(rules: Rules, line: &[u8], at: usize, closing: bool, flag: u8) -> Op
 //       ^
 fn tag_close_start(rules: Rules, line: &[u8], at: usize, flag: u8) -> Opening
     ensures { λ r. ⌜ openingNumber r ≡ tagCloseStartOf rules flag (drop at (now (line .entry))) ⌝ }
+    ensures { λ r. ⌜ Names r (tagNameIn (drop at (now (line .entry)))) ⌝ }
 {
     if at >= line.len() {
         return Opening::Shut;
@@ -644,9 +666,13 @@ fn cdata_open_inside(line: &[u8], at: usize) -> bool
 //        ^
 fn comment_open_inside(line: &[u8], at: usize) -> Opening
     ensures { λ r. ⌜ openingNumber r ≡ commentOpenOf (drop at (now (line .entry))) ⌝ }
+    ensures { λ r. ⌜ Unnamed r ⌝ }
 {
     if peek(line, at) == 45 {
-        return Opening::Opens(Kind::Comment);
+        return Opening::Opens {
+            kind: Kind::Comment,
+            name: NO_NAME,
+        };
     }
     Opening::Shut
 }
@@ -657,6 +683,7 @@ fn comment_open_inside(line: &[u8], at: usize) -> Opening
 //       ^
 fn declaration_open(line: &[u8], at: usize) -> Opening
     ensures { λ r. ⌜ openingNumber r ≡ declarationOpenOf (drop at (now (line .entry))) ⌝ }
+    ensures { λ r. ⌜ Unnamed r ⌝ }
 {
     if at >= line.len() {
         return Opening::Shut;
@@ -666,11 +693,17 @@ fn declaration_open(line: &[u8], at: usize) -> Opening
         return comment_open_inside(line, at + 1);
     }
     if is_letter(b) {
-        return Opening::Opens(Kind::Declaration);
+        return Opening::Opens {
+            kind: Kind::Declaration,
+            name: NO_NAME,
+        };
     }
     if b == b'[' {
         if cdata_open_inside(line, at + 1) {
-            return Opening::Opens(Kind::Cdata);
+            return Opening::Opens {
+                kind: Kind::Cdata,
+                name: NO_NAME,
+            };
         }
     }
     Opening::Shut
@@ -686,6 +719,7 @@ fn declaration_open(line: &[u8], at: usize) -> Opening
 //      ^
 fn open(rules: Rules, line: &[u8], at: usize, flag: u8) -> Opening
     ensures { λ r. ⌜ openingNumber r ≡ openOf rules flag (drop at (now (line .entry))) ⌝ }
+    ensures { λ r. ⌜ Names r (tagName (byte "<" ∷ drop at (now (line .entry)))) ⌝ }
 {
     if at >= line.len() {
         return Opening::Shut;
@@ -698,7 +732,10 @@ fn open(rules: Rules, line: &[u8], at: usize, flag: u8) -> Opening
         return tag_close_start(rules, line, at + 1, flag);
     }
     if b == b'?' {
-        return Opening::Opens(Kind::Instruction);
+        return Opening::Opens {
+            kind: Kind::Instruction,
+            name: NO_NAME,
+        };
     }
     if is_letter(b) {
         return tag_name(rules, line, at, false, flag);
@@ -712,6 +749,7 @@ fn open(rules: Rules, line: &[u8], at: usize, flag: u8) -> Opening
 //       ^
 fn before(rules: Rules, line: &[u8], at: usize, flag: u8) -> Opening
     ensures { λ r. ⌜ openingNumber r ≡ kindAt rules flag (drop at (now (line .entry))) ⌝ }
+    ensures { λ r. ⌜ Names r (tagName (drop at (now (line .entry)))) ⌝ }
 {
     if at >= line.len() {
         return Opening::Shut;
@@ -722,12 +760,13 @@ fn before(rules: Rules, line: &[u8], at: usize, flag: u8) -> Opening
     open(rules, line, at + 1, flag)
 }
 
-// Start of a line: the kind of block that it opens.
+// Start of a line: the kind of block that it opens, with the place of its name.
 //
 //       <x>
 //     ^
 pub(crate) fn start(rules: Rules, line: &[u8], flag: u8) -> Opening
     ensures { λ r. ⌜ openingNumber r ≡ kindOf rules (lineOf flag [] (now (line .entry))) ⌝ }
+    ensures { λ r. ⌜ openingName r ≡ placeOf (openingNumber r) (lineOf flag [] (now (line .entry))) ⌝ }
 {
     let indent = inside(line, 0);
     if indent > 3 {
@@ -740,10 +779,15 @@ pub(crate) fn start(rules: Rules, line: &[u8], flag: u8) -> Opening
 //
 //     <!---->
 //            ^
-pub(crate) fn continuation_after(kind: Kind, stop: usize, closed: bool) -> Block
-    ensures { λ r. ⌜ blockAnswerOf r ≡ foundBlock (found (kindNumber kind) stop closed) ⌝ }
+pub(crate) fn continuation_after(kind: Kind, name: u8, stop: usize, closed: bool) -> Block
+    ensures { λ r. ⌜ blockAnswerOf r ≡ foundBlock (found (kindNumber kind) name stop closed) ⌝ }
 {
-    Block::Found(Found { kind, stop, closed })
+    Block::Found(Found {
+        kind,
+        name,
+        stop,
+        closed,
+    })
 }
 
 // Before a line of kind 6 or 7: whether it is blank.
@@ -801,29 +845,30 @@ fn continuation_before(bulletin: &[u8], from: usize) -> &[u8]
 pub(crate) fn continuation_start(
     rules: Rules,
     kind: Kind,
+    name: u8,
     bulletin: &[u8],
     flags: &[u8],
     index: usize,
     line: usize,
 ) -> Block
-    ensures { λ r. ⌜ blockAnswerOf r ≡ continuationStartOf rules (kindNumber kind) (now (bulletin .entry)) (now (flags .entry)) index line ⌝ }
+    ensures { λ r. ⌜ blockAnswerOf r ≡ continuationStartOf rules (kindNumber kind) name (now (bulletin .entry)) (now (flags .entry)) index line ⌝ }
 {
     let mut stop = index;
     let mut number = line;
     while stop < bulletin.len() {
         let from = continuation_start_non_lazy(bulletin, stop);
         if from == stop {
-            return continuation_after(kind, stop, false);
+            return continuation_after(kind, name, stop, false);
         }
         let content = continuation_before(bulletin, from);
         if ends_before(kind, flag_at(flags, number), content) {
-            return continuation_after(kind, stop, false);
+            return continuation_after(kind, name, stop, false);
         }
         stop = from + content.len();
         if closes_line(rules, kind, content) {
-            return continuation_after(kind, stop, true);
+            return continuation_after(kind, name, stop, true);
         }
         number = next_number(flags, number);
     }
-    continuation_after(kind, stop, false)
+    continuation_after(kind, name, stop, false)
 }

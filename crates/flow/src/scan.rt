@@ -35,9 +35,10 @@ const WRONG_FLAG: u8 = 3;
 
 const WRONG_INDEX: u8 = 4;
 
-// A block that was found, and whether a closer was met.
+// A block that was found: its kind, the place of its name in the list of that kind, its stop, and whether a closer was met.
 pub struct Found {
     pub kind: Kind,
+    pub name: u8,
     pub stop: usize,
     pub closed: bool,
 }
@@ -93,11 +94,19 @@ pub fn block_at(rules: Rules, bulletin: &[u8], flags: &[u8], index: usize, line:
     let content = from_indices(bulletin, index, stop);
     match start(rules, content, flag_at(flags, line)) {
         Opening::Shut => Block::Missing,
-        Opening::Opens(kind) => {
+        Opening::Opens { kind, name } => {
             if closes_line(rules, kind, content) {
-                return continuation_after(kind, stop, true);
+                return continuation_after(kind, name, stop, true);
             }
-            continuation_start(rules, kind, bulletin, flags, stop, next_number(flags, line))
+            continuation_start(
+                rules,
+                kind,
+                name,
+                bulletin,
+                flags,
+                stop,
+                next_number(flags, line),
+            )
         }
     }
 }

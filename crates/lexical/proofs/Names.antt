@@ -180,10 +180,11 @@ place-member k n [] h = refl
 place-member k n (x ∷ xs) h =
     split (sameBytes n x) (λ e. let u = ne-eqb k 255 (λ z. omega arith) in rw (e, u)) (λ e. rw e (place-member (suc k) n xs (omega arith)))
 
-pub block-place-is : (n : List ℕ) → isBlockName n ≡ not (eqb (blockPlace n) unnamed)
-unfolding isBlockName blockPlace
-block-place-is n = place-member 0 (map lower n) blockNames (omega (arith, names-few blockNames block-sound))
+module _ (n : List ℕ) (place : ℕ) where
+  pub block-place-is : place ≡ blockPlace n → isBlockName n ≡ not (eqb place unnamed)
+  unfolding isBlockName blockPlace
+  block-place-is e = place-member 0 (map lower n) blockNames (omega (arith, names-few blockNames block-sound)) ∙ ap (λ p. not (eqb p unnamed)) (sym e)
 
-pub raw-place-is : (n : List ℕ) → isRawName n ≡ not (eqb (rawPlace n) unnamed)
-unfolding isRawName rawPlace
-raw-place-is n = place-member 0 (map lower n) rawNames (omega (arith, names-few rawNames raw-sound))
+  pub raw-place-is : place ≡ rawPlace n → isRawName n ≡ not (eqb place unnamed)
+  unfolding isRawName rawPlace
+  raw-place-is e = place-member 0 (map lower n) rawNames (omega (arith, names-few rawNames raw-sound)) ∙ ap (λ p. not (eqb p unnamed)) (sym e)

@@ -3,6 +3,7 @@ use mathlib.Core.Path.{sym, _∙_, ap}
 use native.Mathlib.Omega.{arith}
 use borrow.Author.Needs.{needs}
 use Rattle.lexical.specs.Name.{isRawName}
+use Rattle.lexical.proofs.Names.{raw-place-is}
 use Rattle.flow.proofs.RawEnd.{at-end, at-mark, at-letter, at-last, at-other}
 use Prim.Native.Nat.{ℕ, _<_}
 use borrow.Fn.Kinds.{In}
@@ -11,7 +12,7 @@ use Rattle.flow.proofs.html_flow.continuation_raw_end_tag.Reads as cont
 use Rattle.flow.proofs.html_flow.continuation_raw_end_tag.Kinds as continuation-raw-end-tag-kinds
 use Rattle.flow.proofs.html_flow.+continuation_raw_end_tag.Lts-continuation_raw_end_tag as continuation-raw-end-tag-lts
 use Rattle.lexical.proofs.byte.is_letter.Reads as is-letter-reads
-use Rattle.lexical.proofs.constant.is_raw_name.Reads as is-raw-name-reads
+use Rattle.lexical.proofs.constant.raw_place.Reads as raw-place-reads
 use Rattle.lexical.proofs.slice.from_indices.Reads as from-indices-reads
 use Rattle.flow.proofs.html_flow.+continuation_raw_end_tag.{statement}
 use Rattle.flow.proofs.html_flow.+continuation_raw_end_tag.Tie.{close}
@@ -38,8 +39,8 @@ continuation-raw-end-tag-below t =
 continuation-raw-end-tag-returns : (t : ℕ) → continuation-raw-end-tag-lts.Need-returns (
   from-indices-reads.Asked,
   from-indices-reads.Learnt,
-  is-raw-name-reads.Asked,
-  is-raw-name-reads.Learnt,
+  raw-place-reads.Asked,
+  raw-place-reads.Learnt,
   is-letter-reads.Asked,
   is-letter-reads.Learnt,
   continuation-raw-end-tag-below t,
@@ -51,8 +52,8 @@ continuation-raw-end-tag-shared-slice-read-b :
     (t : ℕ) → continuation-raw-end-tag-lts.Need-shared-slice-read-b (
       from-indices-reads.Asked,
       from-indices-reads.Learnt,
-      is-raw-name-reads.Asked,
-      is-raw-name-reads.Learnt,
+      raw-place-reads.Asked,
+      raw-place-reads.Learnt,
       is-letter-reads.Asked,
       is-letter-reads.Learnt,
       continuation-raw-end-tag-below t,
@@ -64,8 +65,8 @@ continuation-raw-end-tag-from-indices-requires :
     (t : ℕ) → continuation-raw-end-tag-lts.Need-from-indices-requires (
       from-indices-reads.Asked,
       from-indices-reads.Learnt,
-      is-raw-name-reads.Asked,
-      is-raw-name-reads.Learnt,
+      raw-place-reads.Asked,
+      raw-place-reads.Learnt,
       is-letter-reads.Asked,
       is-letter-reads.Learnt,
       continuation-raw-end-tag-below t,
@@ -73,31 +74,31 @@ continuation-raw-end-tag-from-indices-requires :
     ) (continuation-raw-end-tag-at t) continuation-raw-end-tag.Post
 continuation-raw-end-tag-from-indices-requires t c κs = search needs
 
-continuation-raw-end-tag-is-raw-name-requires :
-    (t : ℕ) → continuation-raw-end-tag-lts.Need-is-raw-name-requires (
+continuation-raw-end-tag-raw-place-requires :
+    (t : ℕ) → continuation-raw-end-tag-lts.Need-raw-place-requires (
       from-indices-reads.Asked,
       from-indices-reads.Learnt,
-      is-raw-name-reads.Asked,
-      is-raw-name-reads.Learnt,
+      raw-place-reads.Asked,
+      raw-place-reads.Learnt,
       is-letter-reads.Asked,
       is-letter-reads.Learnt,
       continuation-raw-end-tag-below t,
       continuation-raw-end-tag.Post,
     ) (continuation-raw-end-tag-at t) continuation-raw-end-tag.Post
-continuation-raw-end-tag-is-raw-name-requires t c κs = search needs
+continuation-raw-end-tag-raw-place-requires t c κs = search needs
 
 continuation-raw-end-tag-returns-2 : (t : ℕ) → continuation-raw-end-tag-lts.Need-returns-2 (
   from-indices-reads.Asked,
   from-indices-reads.Learnt,
-  is-raw-name-reads.Asked,
-  is-raw-name-reads.Learnt,
+  raw-place-reads.Asked,
+  raw-place-reads.Learnt,
   is-letter-reads.Asked,
   is-letter-reads.Learnt,
   continuation-raw-end-tag-below t,
   continuation-raw-end-tag.Post,
 ) (continuation-raw-end-tag-at t) continuation-raw-end-tag.Post
 continuation-raw-end-tag-returns-2 t c = let a = c .before .before .before .before .before .before .args in
-    c .is-raw-name .ensures
+    sym (raw-place-is _ _ (c .raw-place .ensures))
     ∙ ap isRawName (c .before .from-indices .ensures)
     ∙ sym (at-mark (a .line .now) (a .start) (a .at) (c .before .before .before .before .before .before .pre .1) (a .allowed) (c .before .before .before .before .if1 .left) (c .before .before .if2 .taken))
 
@@ -105,8 +106,8 @@ continuation-raw-end-tag-is-letter-requires :
     (t : ℕ) → continuation-raw-end-tag-lts.Need-is-letter-requires (
       from-indices-reads.Asked,
       from-indices-reads.Learnt,
-      is-raw-name-reads.Asked,
-      is-raw-name-reads.Learnt,
+      raw-place-reads.Asked,
+      raw-place-reads.Learnt,
       is-letter-reads.Asked,
       is-letter-reads.Learnt,
       continuation-raw-end-tag-below t,
@@ -118,8 +119,8 @@ continuation-raw-end-tag-add-continuation-raw-end-tag :
     (t : ℕ) → continuation-raw-end-tag-lts.Need-add-continuation-raw-end-tag (
       from-indices-reads.Asked,
       from-indices-reads.Learnt,
-      is-raw-name-reads.Asked,
-      is-raw-name-reads.Learnt,
+      raw-place-reads.Asked,
+      raw-place-reads.Learnt,
       is-letter-reads.Asked,
       is-letter-reads.Learnt,
       continuation-raw-end-tag-below t,
@@ -131,8 +132,8 @@ continuation-raw-end-tag-sub-continuation-raw-end-tag :
     (t : ℕ) → continuation-raw-end-tag-lts.Need-sub-continuation-raw-end-tag (
       from-indices-reads.Asked,
       from-indices-reads.Learnt,
-      is-raw-name-reads.Asked,
-      is-raw-name-reads.Learnt,
+      raw-place-reads.Asked,
+      raw-place-reads.Learnt,
       is-letter-reads.Asked,
       is-letter-reads.Learnt,
       continuation-raw-end-tag-below t,
@@ -144,8 +145,8 @@ continuation-raw-end-tag-continuation-raw-end-tag-requires :
     (t : ℕ) → continuation-raw-end-tag-lts.Need-continuation-raw-end-tag-requires (
       from-indices-reads.Asked,
       from-indices-reads.Learnt,
-      is-raw-name-reads.Asked,
-      is-raw-name-reads.Learnt,
+      raw-place-reads.Asked,
+      raw-place-reads.Learnt,
       is-letter-reads.Asked,
       is-letter-reads.Learnt,
       continuation-raw-end-tag-below t,
@@ -156,8 +157,8 @@ continuation-raw-end-tag-continuation-raw-end-tag-requires t c κs = (omega arit
 continuation-raw-end-tag-returns-3 : (t : ℕ) → continuation-raw-end-tag-lts.Need-returns-3 (
   from-indices-reads.Asked,
   from-indices-reads.Learnt,
-  is-raw-name-reads.Asked,
-  is-raw-name-reads.Learnt,
+  raw-place-reads.Asked,
+  raw-place-reads.Learnt,
   is-letter-reads.Asked,
   is-letter-reads.Learnt,
   continuation-raw-end-tag-below t,
@@ -170,8 +171,8 @@ continuation-raw-end-tag-returns-3 t c = let a = c .before .before .before .befo
 continuation-raw-end-tag-returns-4 : (t : ℕ) → continuation-raw-end-tag-lts.Need-returns-4 (
   from-indices-reads.Asked,
   from-indices-reads.Learnt,
-  is-raw-name-reads.Asked,
-  is-raw-name-reads.Learnt,
+  raw-place-reads.Asked,
+  raw-place-reads.Learnt,
   is-letter-reads.Asked,
   is-letter-reads.Learnt,
   continuation-raw-end-tag-below t,
@@ -182,8 +183,8 @@ continuation-raw-end-tag-returns-4 t c = let a = c .before .before .before .befo
 continuation-raw-end-tag-returns-5 : (t : ℕ) → continuation-raw-end-tag-lts.Need-returns-5 (
   from-indices-reads.Asked,
   from-indices-reads.Learnt,
-  is-raw-name-reads.Asked,
-  is-raw-name-reads.Learnt,
+  raw-place-reads.Asked,
+  raw-place-reads.Learnt,
   is-letter-reads.Asked,
   is-letter-reads.Learnt,
   continuation-raw-end-tag-below t,
@@ -196,8 +197,8 @@ pub +continuation-raw-end-tag-spec : {M : Type 1} → statement M
     close μ-continuation-raw-end-tag λ t. continuation-raw-end-tag-lts.spec (
       from-indices-reads.Asked,
       from-indices-reads.Learnt,
-      is-raw-name-reads.Asked,
-      is-raw-name-reads.Learnt,
+      raw-place-reads.Asked,
+      raw-place-reads.Learnt,
       is-letter-reads.Asked,
       is-letter-reads.Learnt,
       continuation-raw-end-tag-below t,
@@ -208,7 +209,7 @@ pub +continuation-raw-end-tag-spec : {M : Type 1} → statement M
     (continuation-raw-end-tag-returns t)
     (continuation-raw-end-tag-shared-slice-read-b t)
     (continuation-raw-end-tag-from-indices-requires t)
-    (continuation-raw-end-tag-is-raw-name-requires t)
+    (continuation-raw-end-tag-raw-place-requires t)
     (continuation-raw-end-tag-returns-2 t)
     (continuation-raw-end-tag-is-letter-requires t)
     (continuation-raw-end-tag-add-continuation-raw-end-tag t)

@@ -9,10 +9,10 @@ use Rattle.flow.proofs.html_flow.continuation_start.Statement.{statemen
 use Rattle.flow.proofs.html_flow.continuation_start.Tie as tie
 
 abbrev Inv-loop : tie.InvT-loop
-Inv-loop rules kind bulletin flags index line stop₀ number₀ stop number = continuationStartOf rules (kindNumber kind) bulletin flags stop number ≡ continuationStartOf rules (kindNumber kind) bulletin flags index line
+Inv-loop rules kind name bulletin flags index line stop₀ number₀ stop number = continuationStartOf rules (kindNumber kind) name bulletin flags stop number ≡ continuationStartOf rules (kindNumber kind) name bulletin flags index line
 
 abbrev μ-loop : tie.MeasureT-loop
-μ-loop rules kind bulletin flags index line stop₀ number₀ stop number = length bulletin - stop
+μ-loop rules kind name bulletin flags index line stop₀ number₀ stop number = length bulletin - stop
 
 loop-holds : tie.Need-loop-holds Inv-loop μ-loop
 loop-holds c = refl
@@ -25,7 +25,7 @@ continuation-after-requires : tie.Need-continuation-after-requires Inv-loop μ-l
 continuation-after-requires c κs = search needs
 
 returns : tie.Need-returns Inv-loop μ-loop
-returns c = let a = c .before .before .before .before .before .before .before .args in c .continuation-after .ensures ∙ sym (same-from (a .rules) (kindNumber (a .kind)) (a .bulletin .now) (a .flags .now) (c .before .before .before .before .loop .stop) (c .before .before .before .before .loop .number) _ (c .before .before .continuation-start-non-lazy .ensures) (c .before .if1 .taken)) ∙ c .before .before .before .before .loop .inv
+returns c = let a = c .before .before .before .before .before .before .before .args in c .continuation-after .ensures ∙ sym (same-from (a .rules) (kindNumber (a .kind)) (a .name) (a .bulletin .now) (a .flags .now) (c .before .before .before .before .loop .stop) (c .before .before .before .before .loop .number) _ (c .before .before .continuation-start-non-lazy .ensures) (c .before .if1 .taken)) ∙ c .before .before .before .before .loop .inv
 
 continuation-before-requires : tie.Need-continuation-before-requires Inv-loop μ-loop
 continuation-before-requires c κs = search needs
@@ -42,7 +42,7 @@ continuation-after-requires-2 c κs = search needs
 returns-2 : tie.Need-returns-2 Inv-loop μ-loop
 returns-2 c = let a = c .before .before .before .before .before .before .before .before .before .before .before .args in
     c .continuation-after2 .ensures
-    ∙ sym (line-ends (a .rules) (kindNumber (a .kind)) (a .bulletin .now) (a .flags .now) (c .before .before .before .before .before .before .before .before .loop .stop) (c .before .before .before .before .before .before .before .before .loop .number) _ _ _ (c .before .before .before .before .before .before .continuation-start-non-lazy .ensures) (c .before .before .before .before .continuation-before .ensures) (c .before .before .before .flag-at .ensures) (c .before .before .before .before .before .if1 .left)
+    ∙ sym (line-ends (a .rules) (kindNumber (a .kind)) (a .name) (a .bulletin .now) (a .flags .now) (c .before .before .before .before .before .before .before .before .loop .stop) (c .before .before .before .before .before .before .before .before .loop .number) _ _ _ (c .before .before .before .before .before .before .continuation-start-non-lazy .ensures) (c .before .before .before .before .continuation-before .ensures) (c .before .before .before .flag-at .ensures) (c .before .before .before .before .before .if1 .left)
     (sym (c .before .before .ends-before .ensures) ∙ c .before .if2 .taken))
     ∙ c .before .before .before .before .before .before .before .before .loop .inv
 
@@ -59,7 +59,7 @@ continuation-after-requires-3 c κs = search needs
 returns-3 : tie.Need-returns-3 Inv-loop μ-loop
 returns-3 c = let a = c .before .before .before .before .before .before .before .before .before .before .before .before .before .args in
     c .continuation-after3 .ensures
-    ∙ sym (line-closes (a .rules) (kindNumber (a .kind)) (a .bulletin .now) (a .flags .now) (c .before .before .before .before .before .before .before .before .before .before .loop .stop) (c .before .before .before .before .before .before .before .before .before .before .loop .number) _ _ _ (c .before .before .before .before .before .before .before .before .continuation-start-non-lazy .ensures) (c .before .before .before .before .before .before .continuation-before .ensures) (c .before .before .before .before .before .flag-at .ensures) (c .before .before .before .before .before .before .before .if1 .left)
+    ∙ sym (line-closes (a .rules) (kindNumber (a .kind)) (a .name) (a .bulletin .now) (a .flags .now) (c .before .before .before .before .before .before .before .before .before .before .loop .stop) (c .before .before .before .before .before .before .before .before .before .before .loop .number) _ _ _ (c .before .before .before .before .before .before .before .before .continuation-start-non-lazy .ensures) (c .before .before .before .before .before .before .continuation-before .ensures) (c .before .before .before .before .before .flag-at .ensures) (c .before .before .before .before .before .before .before .if1 .left)
     (sym (c .before .before .before .before .ends-before .ensures) ∙ c .before .before .before .if2 .left) (sym (c .before .before .closes-line .ensures) ∙ c .before .if3 .taken))
     ∙ c .before .before .before .before .before .before .before .before .before .before .loop .inv
 
@@ -71,7 +71,7 @@ loop-less c = search needs
 
 loop-again : tie.Need-loop-again Inv-loop μ-loop
 loop-again c = let a = c .before .before .before .before .before .before .before .before .before .before .before .before .before .args in
-    sym (line-on (a .rules) (kindNumber (a .kind)) (a .bulletin .now) (a .flags .now) (c .before .before .before .before .before .before .before .before .before .before .loop .stop) (c .before .before .before .before .before .before .before .before .before .before .loop .number) _ _ _ (c .before .before .before .before .before .before .before .before .continuation-start-non-lazy .ensures) (c .before .before .before .before .before .before .continuation-before .ensures) (c .before .before .before .before .before .flag-at .ensures) (c .before .before .before .before .before .before .before .if1 .left)
+    sym (line-on (a .rules) (kindNumber (a .kind)) (a .name) (a .bulletin .now) (a .flags .now) (c .before .before .before .before .before .before .before .before .before .before .loop .stop) (c .before .before .before .before .before .before .before .before .before .before .loop .number) _ _ _ (c .before .before .before .before .before .before .before .before .continuation-start-non-lazy .ensures) (c .before .before .before .before .before .before .continuation-before .ensures) (c .before .before .before .before .before .flag-at .ensures) (c .before .before .before .before .before .before .before .if1 .left)
     (sym (c .before .before .before .before .ends-before .ensures) ∙ c .before .before .before .if2 .left) (sym (c .before .before .closes-line .ensures) ∙ c .before .if3 .left) _ (next-flags (a .flags .now) _ _ (c .next-number .ensures)))
     ∙ c .before .before .before .before .before .before .before .before .before .before .loop .inv
 
@@ -79,7 +79,7 @@ continuation-after-requires-4 : tie.Need-continuation-after-requires-4 Inv-loop 
 continuation-after-requires-4 c κs = search needs
 
 returns-4 : tie.Need-returns-4 Inv-loop μ-loop
-returns-4 c = let a = c .before .before .before .before .before .args in c .continuation-after4 .ensures ∙ sym (text-over (a .rules) (kindNumber (a .kind)) (a .bulletin .now) (a .flags .now) _ _ (c .before .loop-test .left)) ∙ c .before .before .loop .inv
+returns-4 c = let a = c .before .before .before .before .before .args in c .continuation-after4 .ensures ∙ sym (text-over (a .rules) (kindNumber (a .kind)) (a .name) (a .bulletin .now) (a .flags .now) _ _ (c .before .loop-test .left)) ∙ c .before .before .loop .inv
 
 pub continuation-start-spec : {M : Type 1} → statement M
 continuation-start-spec =

@@ -11,10 +11,14 @@ use borrow.Author.Tests.{ne-eqb}
 use Rattle.lexical.specs.Text.{byte, first, run}
 use Rattle.lexical.specs.Byte.{isSpaceOrTab}
 use Rattle.lexical.specs.Line.{lineLength}
-use Rattle.rules.specs.Lines.{linesOf}
+use Rattle.rules.specs.Lines.{Line, linesOf}
+use Rattle.rules.specs.Block.{placeOf}
 use Rattle.rules.specs.Scan.{noBlock, blockOf}
 use Rattle.rules.specs.declared.Rules.{Rules}
-use Rattle.flow.specs.Answer.{kindNumber, openingNumber}
+use Rattle.flow.specs.Answer.{kindNumber, openingNumber, openingName}
+use Rattle.flow.specs.declared.html_flow.Kind.{Kind}
+use Rattle.flow.specs.declared.html_flow.Opening.{Opening}
+use Rattle.flow.specs.declared.html_flow.Opening.the-variants.{Opens}
 use Rattle.rules.proofs.LineLaws.{contentFrom}
 use Rattle.flow.proofs.OpenSteps.{no-kind}
 use Rattle.flow.proofs.BlockSteps.{next-flags, no-block, first-closes, first-on, has-number}
@@ -31,6 +35,10 @@ not-marked ρ s flags i n end b e f h =
     let g : b ≡ first (drop (run isSpaceOrTab t) t) = f ∙ ap (λ j. first (drop j s)) e ∙ ap first (sym (drop-drop (run isSpaceOrTab t) i s)) in
     no-block ρ s flags i n (i + lineLength t) (getD (drop n flags) 0 0) (contentFrom s i) refl (ap (λ k. take k t) m) refl
     (no-kind ρ (getD (drop n flags) 0 0) t (ap (λ x. eqb x (byte "<")) (sym g) ∙ ne-eqb b (byte "<") h))
+
+-- an opening that is known carries the place of its name
+named : (l : Line) (r : Opening) (kind : Kind) (name : ℕ) → r ≡ Opens kind name → openingName r ≡ placeOf (openingNumber r) l → name ≡ placeOf (kindNumber kind) l
+named l r kind name e h = sym (ap openingName e) ∙ h ∙ ap (λ o. placeOf (openingNumber o) l) e
 
 space-or-tab-end-requires : tie.Need-space-or-tab-end-requires
 space-or-tab-end-requires c κs = search needs
@@ -68,10 +76,13 @@ continuation-after-requires : tie.Need-continuation-after-requires
 continuation-after-requires c κs = search needs
 
 returns-2 : tie.Need-returns-2
-returns-2 c = let a = c .before .before .before .before .before .before .before .before .before .before .before .before .before .before .before .args in let k = c .before .before .before .before .kind .given .0 .0 in
+returns-2 c =
+    let a = c .before .before .before .before .before .before .before .before .before .before .before .before .before .before .before .args in
+    let opens = c .before .before .before .before .kind .given in
+    let begun = c .before .before .before .before .before .before .start .ensures in
     c .continuation-after .ensures
     ∙ sym (first-closes (a .rules) (a .bulletin .now) (a .flags .now) (a .index) (a .line) _ _ _ (c .before .before .before .before .before .before .before .before .before .line-end .ensures) (c .before .before .before .before .before .before .before .before .from-indices .ensures) (c .before .before .before .before .before .before .before .flag-at .ensures)
-    (kindNumber k) (sym (c .before .before .before .before .before .before .start .ensures) ∙ ap openingNumber (c .before .before .before .before .kind .given .1)) (has-number k) (sym (c .before .before .closes-line .ensures) ∙ c .before .if2 .taken))
+    (kindNumber (opens .0 .0)) (opens .0 .1 .0) (sym (begun .0) ∙ ap openingNumber (opens .1)) (named _ _ _ _ (opens .1) (begun .1)) (has-number (opens .0 .0)) (sym (c .before .before .closes-line .ensures) ∙ c .before .if2 .taken))
 
 next-number-requires : tie.Need-next-number-requires
 next-number-requires c κs = search needs
@@ -82,13 +93,16 @@ continuation-start-requires c κs = search needs
 returns-3 : tie.Need-returns-3
 returns-3 c = let a = c .before .before .before .before .before .before .before .before .before .before .before .args in
     sym (no-block (a .rules) (a .bulletin .now) (a .flags .now) (a .index) (a .line) _ _ _ (c .before .before .before .before .before .line-end .ensures) (c .before .before .before .before .from-indices .ensures) (c .before .before .before .flag-at .ensures)
-    (sym (c .before .before .start .ensures) ∙ ap openingNumber (c .enum-told .given .1)))
+    (sym (c .before .before .start .ensures .0) ∙ ap openingNumber (c .enum-told .given .1)))
 
 returns-4 : tie.Need-returns-4
-returns-4 c = let a = c .before .before .before .before .before .before .before .before .before .before .before .before .before .before .before .before .args in let k = c .before .before .before .before .before .kind .given .0 .0 in
+returns-4 c =
+    let a = c .before .before .before .before .before .before .before .before .before .before .before .before .before .before .before .before .args in
+    let opens = c .before .before .before .before .before .kind .given in
+    let begun = c .before .before .before .before .before .before .before .start .ensures in
     c .continuation-start .ensures
     ∙ sym (first-on (a .rules) (a .bulletin .now) (a .flags .now) (a .index) (a .line) _ _ _ (c .before .before .before .before .before .before .before .before .before .before .line-end .ensures) (c .before .before .before .before .before .before .before .before .before .from-indices .ensures) (c .before .before .before .before .before .before .before .before .flag-at .ensures)
-    (kindNumber k) (sym (c .before .before .before .before .before .before .before .start .ensures) ∙ ap openingNumber (c .before .before .before .before .before .kind .given .1)) (has-number k) (sym (c .before .before .before .closes-line .ensures) ∙ c .before .before .if2 .left) _ (next-flags (a .flags .now) _ _ (c .before .next-number .ensures)))
+    (kindNumber (opens .0 .0)) (opens .0 .1 .0) (sym (begun .0) ∙ ap openingNumber (opens .1)) (named _ _ _ _ (opens .1) (begun .1)) (has-number (opens .0 .0)) (sym (c .before .before .before .closes-line .ensures) ∙ c .before .before .if2 .left) _ (next-flags (a .flags .now) _ _ (c .before .next-number .ensures)))
 
 pub block-at-spec : {M : Type 1} → statement M
 block-at-spec =
