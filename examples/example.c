@@ -10,6 +10,9 @@
 
 #include "foringamo.h"
 
+static const char *const raw_names[] = {FORINGAMO_RAW_NAMES};
+static const char *const block_names[] = {FORINGAMO_BLOCK_NAMES};
+
 int main(void) {
     const char *source = "door <!-- x -->9\n<div>\nold\n\nok";
     const uint8_t *bulletin = (const uint8_t *)source;
@@ -44,7 +47,8 @@ int main(void) {
     if (block.kind == 0) {
         printf("no block at 17\n");
     } else {
-        printf("a block of kind %d from 17 to %zu, %s\n", block.kind, block.stop, block.closed ? "closed" : "not closed");
+        const char *name = block.kind == 1 ? raw_names[block.name] : block.kind == 6 ? block_names[block.name] : "without a name";
+        printf("a block of kind %d, %s, from 17 to %zu, %s\n", block.kind, name, block.stop, block.closed ? "closed" : "not closed");
     }
 
     /* The comment begins at 5 of the paragraph, whose text has 16 bytes. */

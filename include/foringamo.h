@@ -19,8 +19,8 @@
  *     8  reading a trace: a kind byte is 0 or above 14
  *     9  reading a trace: a record is cut off, or there are not so many (so a loop over all records ends with 9)
  *
- * Of 1 to 7 the first that applies is given. On a refusal every other field is 0 but the carry, which is the one passed in, and no byte of the output buffer
- * changes. On an answer its bytes past those written stay as they are.
+ * Of 1 to 7 the first that applies is given. On a refusal every other field is 0 but the carry, which is the one passed in, and the name, which is 255; no byte of
+ * the output buffer changes. On an answer its bytes past those written stay as they are.
  *
  * A bulletin has one line more than it has line endings (LF, CR LF, or CR), also where it is empty or ends in one, and a flag for each line;
  * foringamo_count_lines says how many. A flag tells what a Markdown parser knows of the line; without one, all flags are 0:
@@ -41,7 +41,7 @@
 #include <stddef.h>
 #include <stdint.h>
 
-#define FORINGAMO_VERSION "0.1.0"
+#define FORINGAMO_VERSION "0.2.0"
 
 #ifdef __cplusplus
 extern "C" {
@@ -55,8 +55,20 @@ typedef struct {
     uint8_t refusal;
     uint8_t kind;   /* 1 to 7; 0: none, stop 0 */
     uint8_t closed; /* 1: a closer was met, never for kinds 6 and 7; else 0 */
+    uint8_t name;   /* kinds 1 and 6: the place of its name in the list below, from 0; 255: any other kind, or none */
     size_t stop;
 } foringamo_block;
+
+/* The name of a block that has none. */
+#define FORINGAMO_NO_NAME 255
+
+/* The 4 names of kind 1 and the 62 of kind 6, each in its place: static const char *const names[] = {FORINGAMO_BLOCK_NAMES}; */
+#define FORINGAMO_RAW_NAMES "pre", "script", "style", "textarea"
+#define FORINGAMO_BLOCK_NAMES \
+    "address", "article", "aside", "base", "basefont", "blockquote", "body", "caption", "center", "col", "colgroup", "dd", "details", "dialog", "dir", \
+    "div", "dl", "dt", "fieldset", "figcaption", "figure", "footer", "form", "frame", "frameset", "h1", "h2", "h3", "h4", "h5", "h6", "head", \
+    "header", "hr", "html", "iframe", "legend", "li", "link", "main", "menu", "menuitem", "nav", "noframes", "ol", "optgroup", "option", "p", "param", \
+    "search", "section", "summary", "table", "tbody", "td", "tfoot", "th", "thead", "title", "tr", "track", "ul"
 
 /* The inline piece that begins at an index. */
 typedef struct {

@@ -2,6 +2,7 @@
  * The C interface: the layout of its structs, the count of lines, every refusal, and what becomes of the output buffer. tests/interface.sh builds and runs it.
  * A line for each check that fails; the last line is 'N passed, M failed'.
  */
+#include <ctype.h>
 #include <stdio.h>
 #include <string.h>
 
@@ -51,8 +52,8 @@ static int has(const uint8_t *bytes, size_t length) {
     return memcmp(out, bytes, length) == 0 && kept_from(length);
 }
 
-static int is_block(foringamo_block r, int refusal, int kind, int closed, size_t stop) {
-    return r.refusal == refusal && r.kind == kind && r.closed == closed && r.stop == stop;
+static int is_block(foringamo_block r, int refusal, int kind, int closed, int name, size_t stop) {
+    return r.refusal == refusal && r.kind == kind && r.closed == closed && r.name == name && r.stop == stop;
 }
 
 static int is_inline(foringamo_inline r, int refusal, int found, int carry, size_t stop) {
@@ -85,6 +86,7 @@ static void layout(void) {
     CHECK(offsetof(foringamo_block, refusal) == 0);
     CHECK(offsetof(foringamo_block, kind) == 1);
     CHECK(offsetof(foringamo_block, closed) == 2);
+    CHECK(offsetof(foringamo_block, name) == 3);
     CHECK(offsetof(foringamo_block, stop) == 8);
     CHECK(sizeof(foringamo_inline) == 16);
     CHECK(offsetof(foringamo_inline, refusal) == 0);
@@ -176,29 +178,56 @@ static void count_lines(void) {
 }
 
 static void block_scan(void) {
-    CHECK(is_block(foringamo_block_scan(big, 16001, zeros, 1, 0), 1, 0, 0, 0));
-    CHECK(is_block(foringamo_block_scan(big, 16001, wrong, 2, 7), 1, 0, 0, 0));
-    CHECK(is_block(foringamo_block_scan(big, 16000, zeros, 1, 0), 0, 0, 0, 0));
-    CHECK(is_block(foringamo_block_scan(TEXT("<div>"), NOWHERE, 0, 0), 2, 0, 0, 0));
-    CHECK(is_block(foringamo_block_scan(TEXT("<div>"), zeros, 2, 0), 2, 0, 0, 0));
-    CHECK(is_block(foringamo_block_scan(TEXT("<div>"), wrong, 2, 1), 2, 0, 0, 0));
-    CHECK(is_block(foringamo_block_scan(TEXT("<div>"), wrong, 1, 0), 3, 0, 0, 0));
-    CHECK(is_block(foringamo_block_scan(TEXT("<div>"), wrong, 1, 1), 3, 0, 0, 0));
-    CHECK(is_block(foringamo_block_scan(TEXT("<div>"), zeros, 1, 1), 4, 0, 0, 0));
-    CHECK(is_block(foringamo_block_scan(TEXT("<div>"), zeros, 1, 6), 4, 0, 0, 0));
-    CHECK(is_block(foringamo_block_scan(TEXT("<div>"), zeros, 1, SIZE_MAX), 4, 0, 0, 0));
-    CHECK(is_block(foringamo_block_scan(TEXT("a\r\n<div>"), zeros, 2, 2), 4, 0, 0, 0));
+    CHECK(is_block(foringamo_block_scan(big, 16001, zeros, 1, 0), 1, 0, 0, 255, 0));
+    CHECK(is_block(foringamo_block_scan(big, 16001, wrong, 2, 7), 1, 0, 0, 255, 0));
+    CHECK(is_block(foringamo_block_scan(big, 16000, zeros, 1, 0), 0, 0, 0, 255, 0));
+    CHECK(is_block(foringamo_block_scan(TEXT("<div>"), NOWHERE, 0, 0), 2, 0, 0, 255, 0));
+    CHECK(is_block(foringamo_block_scan(TEXT("<div>"), zeros, 2, 0), 2, 0, 0, 255, 0));
+    CHECK(is_block(foringamo_block_scan(TEXT("<div>"), wrong, 2, 1), 2, 0, 0, 255, 0));
+    CHECK(is_block(foringamo_block_scan(TEXT("<div>"), wrong, 1, 0), 3, 0, 0, 255, 0));
+    CHECK(is_block(foringamo_block_scan(TEXT("<div>"), wrong, 1, 1), 3, 0, 0, 255, 0));
+    CHECK(is_block(foringamo_block_scan(TEXT("<div>"), zeros, 1, 1), 4, 0, 0, 255, 0));
+    CHECK(is_block(foringamo_block_scan(TEXT("<div>"), zeros, 1, 6), 4, 0, 0, 255, 0));
+    CHECK(is_block(foringamo_block_scan(TEXT("<div>"), zeros, 1, SIZE_MAX), 4, 0, 0, 255, 0));
+    CHECK(is_block(foringamo_block_scan(TEXT("a\r\n<div>"), zeros, 2, 2), 4, 0, 0, 255, 0));
 
-    CHECK(is_block(foringamo_block_scan(TEXT("<pre>\n</pre>"), zeros, 2, 0), 0, 1, 1, 12));
-    CHECK(is_block(foringamo_block_scan(TEXT("<!-- x"), zeros, 1, 0), 0, 2, 0, 6));
-    CHECK(is_block(foringamo_block_scan(TEXT("<!-- x -->\n"), zeros, 2, 0), 0, 2, 1, 10));
-    CHECK(is_block(foringamo_block_scan(TEXT("<?x?>"), zeros, 1, 0), 0, 3, 1, 5));
-    CHECK(is_block(foringamo_block_scan(TEXT("<!X>"), zeros, 1, 0), 0, 4, 1, 4));
-    CHECK(is_block(foringamo_block_scan(TEXT("<![CDATA[]]>"), zeros, 1, 0), 0, 5, 1, 12));
-    CHECK(is_block(foringamo_block_scan(TEXT("<div>\nx\n\n"), zeros, 4, 0), 0, 6, 0, 7));
-    CHECK(is_block(foringamo_block_scan(TEXT("x\n<a>"), zeros, 2, 2), 0, 7, 0, 5));
-    CHECK(is_block(foringamo_block_scan(TEXT("x"), zeros, 1, 0), 0, 0, 0, 0));
-    CHECK(is_block(foringamo_block_scan(NOWHERE, 0, zeros, 1, 0), 0, 0, 0, 0));
+    CHECK(is_block(foringamo_block_scan(TEXT("<pre>\n</pre>"), zeros, 2, 0), 0, 1, 1, 0, 12));
+    CHECK(is_block(foringamo_block_scan(TEXT("<!-- x"), zeros, 1, 0), 0, 2, 0, 255, 6));
+    CHECK(is_block(foringamo_block_scan(TEXT("<!-- x -->\n"), zeros, 2, 0), 0, 2, 1, 255, 10));
+    CHECK(is_block(foringamo_block_scan(TEXT("<?x?>"), zeros, 1, 0), 0, 3, 1, 255, 5));
+    CHECK(is_block(foringamo_block_scan(TEXT("<!X>"), zeros, 1, 0), 0, 4, 1, 255, 4));
+    CHECK(is_block(foringamo_block_scan(TEXT("<![CDATA[]]>"), zeros, 1, 0), 0, 5, 1, 255, 12));
+    CHECK(is_block(foringamo_block_scan(TEXT("<div>\nx\n\n"), zeros, 4, 0), 0, 6, 0, 15, 7));
+    CHECK(is_block(foringamo_block_scan(TEXT("x\n<a>"), zeros, 2, 2), 0, 7, 0, 255, 5));
+    CHECK(is_block(foringamo_block_scan(TEXT("x"), zeros, 1, 0), 0, 0, 0, 255, 0));
+    CHECK(is_block(foringamo_block_scan(NOWHERE, 0, zeros, 1, 0), 0, 0, 0, 255, 0));
+}
+
+/* Whether `<name>` has this kind and the name this place, also in capitals. */
+static int is_named(const char *name, int kind, int place) {
+    char tag[16];
+    int length = snprintf(tag, sizeof tag, "<%s>", name);
+    int small = is_block(foringamo_block_scan((uint8_t *)tag, (size_t)length, zeros, 1, 0), 0, kind, 0, place, (size_t)length);
+    for (int i = 0; i < length; i++) {
+        tag[i] = (char)toupper((unsigned char)tag[i]);
+    }
+    return small && is_block(foringamo_block_scan((uint8_t *)tag, (size_t)length, zeros, 1, 0), 0, kind, 0, place, (size_t)length);
+}
+
+/* The header's names stand in their places. */
+static void names(void) {
+    static const char *const raw[] = {FORINGAMO_RAW_NAMES};
+    static const char *const block[] = {FORINGAMO_BLOCK_NAMES};
+    CHECK(FORINGAMO_NO_NAME == 255);
+    CHECK(sizeof raw / sizeof raw[0] == 4);
+    CHECK(sizeof block / sizeof block[0] == 62);
+    for (int place = 0; place < 4; place++) {
+        CHECK(is_named(raw[place], 1, place));
+    }
+    for (int place = 0; place < 62; place++) {
+        CHECK(is_named(block[place], 6, place));
+    }
+    CHECK(is_named("b", 7, 255));
 }
 
 static void inline_scan(void) {
@@ -355,6 +384,7 @@ int main(void) {
     layout();
     count_lines();
     block_scan();
+    names();
     inline_scan();
     block_trace();
     inline_trace();

@@ -166,6 +166,7 @@ pub fn block(bulletin: &[u8], flags: &[u8], index: usize, work: &mut Work) -> Ou
             refusal,
             kind: 0,
             closed: 0,
+            name: library::NO_NAME,
             stop: 0,
         };
         same("the block scan", wanted, given)?;
@@ -180,6 +181,8 @@ pub fn block(bulletin: &[u8], flags: &[u8], index: usize, work: &mut Work) -> Ou
         refusal: 0,
         kind: answer.kind,
         closed: u8::from(answer.closed),
+        // The Rust keeps no name.
+        name: given.name,
         stop: if found { answer.stop } else { 0 },
     };
     same("the block scan", wanted, given)?;

@@ -1,5 +1,8 @@
 //! The library's C interface.
 
+/// The name of a block that has none.
+pub const NO_NAME: u8 = 255;
+
 /// Kind 0 is none.
 #[repr(C)]
 #[derive(Clone, Copy, Debug, Eq, PartialEq)]
@@ -7,6 +10,7 @@ pub struct Block {
     pub refusal: u8,
     pub kind: u8,
     pub closed: u8,
+    pub name: u8,
     pub stop: usize,
 }
 

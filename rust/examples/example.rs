@@ -23,8 +23,9 @@ fn run() -> Result<(), Refusal> {
     // The line `<div>` begins at 17.
     match foringamo::block_scan(bulletin, &flags, 17)? {
         Some(block) => println!(
-            "a block of kind {} from 17 to {}, {}",
+            "a block of kind {}, {}, from 17 to {}, {}",
             block.kind.number(),
+            block.tag_name().unwrap_or("without a name"),
             block.stop,
             if block.closed { "closed" } else { "not closed" }
         ),

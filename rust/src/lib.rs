@@ -107,15 +107,40 @@ impl Kind {
     }
 }
 
+/// The names of kind 1, each in its place.
+pub const RAW_NAMES: [&str; 4] = ["pre", "script", "style", "textarea"];
+
+/// The names of kind 6, each in its place.
+pub const BLOCK_NAMES: [&str; 62] = [
+    "address", "article", "aside", "base", "basefont", "blockquote", "body", "caption", "center", "col", "colgroup", "dd", "details", "dialog", "dir",
+    "div", "dl", "dt", "fieldset", "figcaption", "figure", "footer", "form", "frame", "frameset", "h1", "h2", "h3", "h4", "h5", "h6", "head",
+    "header", "hr", "html", "iframe", "legend", "li", "link", "main", "menu", "menuitem", "nav", "noframes", "ol", "optgroup", "option", "p", "param",
+    "search", "section", "summary", "table", "tbody", "td", "tfoot", "th", "thead", "title", "tr", "track", "ul",
+];
+
 /// A block, from the line's first byte on.
 #[derive(Clone, Copy, Debug, PartialEq, Eq, Hash)]
 pub struct Block {
     /// What opens it.
     pub kind: Kind,
+    /// The place of its name, in [`RAW_NAMES`] for kind 1 and in [`BLOCK_NAMES`] for kind 6. Other kinds have none.
+    pub name: Option<u8>,
     /// Where it ends.
     pub stop: usize,
     /// Whether a closer was met: never for kinds 6 and 7.
     pub closed: bool,
+}
+
+impl Block {
+    /// Its name, in lower case.
+    pub fn tag_name(self) -> Option<&'static str> {
+        let names: &[&str] = match self.kind {
+            Kind::Raw => &RAW_NAMES,
+            Kind::Basic => &BLOCK_NAMES,
+            _ => &[],
+        };
+        names.get(usize::from(self.name?)).copied()
+    }
 }
 
 /// What an inline scan finds. The carry counts the letters of `CDATA[` read so far, 0 to 5.
@@ -215,6 +240,7 @@ mod c {
         pub refusal: u8,
         pub kind: u8,
         pub closed: u8,
+        pub name: u8,
         pub stop: usize,
     }
 
@@ -308,6 +334,14 @@ fn kind(number: u8) -> Option<Kind> {
     })
 }
 
+// The name of a block that has none.
+const NO_NAME: u8 = 255;
+
+fn block(got: c::Block) -> Option<Block> {
+    let name = (got.name != NO_NAME).then_some(got.name);
+    kind(got.kind).map(|kind| Block { kind, name, stop: got.stop, closed: got.closed == 1 })
+}
+
 // The name of an event by the number of its kind.
 fn name(kind: u8) -> Name {
     match kind {
@@ -349,14 +383,14 @@ pub fn count_lines(text: &[u8]) -> usize {
 /// use foringamo::{block_scan, Block, Kind, Refusal};
 ///
 /// let bulletin = b"door\n<!-- x\ny -->\nok";
-/// let block = Block { kind: Kind::Comment, stop: 17, closed: true };
+/// let block = Block { kind: Kind::Comment, name: None, stop: 17, closed: true };
 /// assert_eq!(block_scan(bulletin, &[0; 4], 5), Ok(Some(block)));
 /// assert_eq!(block_scan(bulletin, &[0; 4], 0), Ok(None));
 /// assert_eq!(block_scan(bulletin, &[0; 4], 1), Err(Refusal::WrongIndex));
 /// ```
 pub fn block_scan(bulletin: &[u8], flags: &[u8], index: usize) -> Result<Option<Block>, Refusal> {
     let got = unsafe { c::foringamo_block_scan(bulletin.as_ptr(), bulletin.len(), flags.as_ptr(), flags.len(), index) };
-    unless_refused(got.refusal, || kind(got.kind).map(|kind| Block { kind, stop: got.stop, closed: got.closed == 1 }))
+    unless_refused(got.refusal, || block(got))
 }
 
 /// The inline piece at the index of a paragraph's text; none where the byte there is not `<`. Of `CDATA[`, the letters that the carry counts are taken as read.
@@ -434,7 +468,8 @@ mod tests {
     #[test]
     fn layout() {
         assert_eq!(size_of::<c::Block>(), 16);
-        assert_eq!([offset_of!(c::Block, refusal), offset_of!(c::Block, kind), offset_of!(c::Block, closed), offset_of!(c::Block, stop)], [0, 1, 2, 8]);
+        assert_eq!([offset_of!(c::Block, refusal), offset_of!(c::Block, kind), offset_of!(c::Block, closed)], [0, 1, 2]);
+        assert_eq!([offset_of!(c::Block, name), offset_of!(c::Block, stop)], [3, 8]);
         assert_eq!(size_of::<c::Inline>(), 16);
         assert_eq!(
             [offset_of!(c::Inline, refusal), offset_of!(c::Inline, found), offset_of!(c::Inline, carry), offset_of!(c::Inline, stop)],

@@ -2,8 +2,8 @@
 #![forbid(unsafe_code)]
 
 use foringamo::{
-    block_scan, block_trace, count_lines, inline_scan, inline_trace, read_trace, withhold, Block, Inline, Kind, Name, Point, Record, Refusal, Shown, INTERRUPT,
-    LAZY, LIMIT,
+    block_scan, block_trace, count_lines, inline_scan, inline_trace, read_trace, withhold, Block, Inline, Kind, Name, Point, Record, Refusal, Shown, BLOCK_NAMES,
+    INTERRUPT, LAZY, LIMIT, RAW_NAMES,
 };
 
 const FILL: u8 = 0xee;
@@ -71,27 +71,49 @@ fn withheld() {
 
 #[test]
 fn blocks() {
-    for (text, kind, stop, closed) in [
-        (&b"<pre>\nx</pre>\ny"[..], Kind::Raw, 13, true),
-        (b"<!-- x\ny", Kind::Comment, 8, false),
-        (b"<?x?>", Kind::Instruction, 5, true),
-        (b"<!x>", Kind::Declaration, 4, true),
-        (b"<![CDATA[x]]>", Kind::Cdata, 13, true),
-        (b"<div>\n\nx", Kind::Basic, 5, false),
-        (b"<a>\nx", Kind::Complete, 5, false),
+    for (text, kind, name, stop, closed) in [
+        (&b"<pre>\nx</pre>\ny"[..], Kind::Raw, Some(0), 13, true),
+        (b"<!-- x\ny", Kind::Comment, None, 8, false),
+        (b"<?x?>", Kind::Instruction, None, 5, true),
+        (b"<!x>", Kind::Declaration, None, 4, true),
+        (b"<![CDATA[x]]>", Kind::Cdata, None, 13, true),
+        (b"<div>\n\nx", Kind::Basic, Some(15), 5, false),
+        (b"<a>\nx", Kind::Complete, None, 5, false),
     ] {
         let flags = vec![0; count_lines(text)];
-        assert_eq!(block_scan(text, &flags, 0), Ok(Some(Block { kind, stop, closed })), "{text:?}");
+        assert_eq!(block_scan(text, &flags, 0), Ok(Some(Block { kind, name, stop, closed })), "{text:?}");
     }
     assert_eq!(block_scan(b"x", &[0], 0), Ok(None));
     assert_eq!(block_scan(b"x", &[0], 1), Err(Refusal::WrongIndex));
     assert_eq!(block_scan(b"x", &[4], 0), Err(Refusal::WrongFlag));
     assert_eq!(block_scan(b"x", &[0, 0], 0), Err(Refusal::WrongCount));
 
-    let complete = Block { kind: Kind::Complete, stop: 3, closed: false };
+    let complete = Block { kind: Kind::Complete, name: None, stop: 3, closed: false };
     assert_eq!(block_scan(b"<a>", &[INTERRUPT], 0), Ok(None));
     assert_eq!(block_scan(b"<a>", &[LAZY], 0), Ok(Some(complete)));
     assert_eq!(block_scan(b"<a>", &[INTERRUPT | LAZY], 0), Ok(Some(complete)));
+}
+
+// Of each list every name has its place there, letter case ignored; behind `/` and in front of `/>` a raw name is one of kind 7.
+#[test]
+fn names() {
+    for (kind, names) in [(Kind::Raw, &RAW_NAMES[..]), (Kind::Basic, &BLOCK_NAMES[..])] {
+        for (place, name) in names.iter().enumerate() {
+            for text in [format!("<{name}>"), format!("<{}", name.to_uppercase())] {
+                let block = block_scan(text.as_bytes(), &[0], 0).unwrap().unwrap();
+                assert_eq!((block.kind, block.name, block.tag_name()), (kind, Some(place as u8), Some(*name)), "{text}");
+            }
+            for text in [format!("</{name}>"), format!("<{name}/>")] {
+                let block = block_scan(text.as_bytes(), &[0], 0).unwrap().unwrap();
+                let known = (kind == Kind::Basic).then_some(*name);
+                assert_eq!((block.kind == Kind::Complete, block.tag_name()), (known.is_none(), known), "{text}");
+            }
+        }
+    }
+    for text in ["<a>", "<!-- -->", "<?pre?>", "<!div>", "<![CDATA[div]]>"] {
+        let block = block_scan(text.as_bytes(), &[0], 0).unwrap().unwrap();
+        assert_eq!((block.name, block.tag_name()), (None, None), "{text}");
+    }
 }
 
 #[test]

@@ -2,13 +2,14 @@
 //
 // A text as it stands, behind a space:
 //
-//     n    a line: its list of names, the column at its end, whether it is blank (lines.rt)
+//     n    a line: its list of names and its place there, the column at its end, whether it is blank (lines.rt)
 //
 // `INDEX FLAGS TEXT`, a space before each: three digits, one digit for each flag, and a text in which `\n`, `\r`, `\t` and `\\` are LF, CR, tab and backslash. What
 // takes no flags has one digit in their place.
 //
 //     i    the inline scan; the digit is the carry (scans.rt)
 //     b    the block scan (scans.rt)
+//     N    the block scan: the place of the name (scans.rt)
 //     r    a reader at the index scans, with the digit as carry, and moves on (readers.rt)
 //     p    a reader goes over the text from the index on (readers.rt)
 //     t    the inline run by the lent step, with the digit as carry and all eight changes (readers.rt)
@@ -42,6 +43,7 @@ use crate::hex::number;
 use crate::readers;
 use crate::recorded::both;
 use crate::recorded::long;
+use crate::scans::name;
 use crate::scans::scan;
 use crate::show::end_line;
 use crate::show::unknown;
@@ -74,6 +76,7 @@ fn answer(letter: u8, text: &[u8], flags: &[u8], index: usize, room: usize) {
     match letter {
         b'i' => scan(false, text, flags, index),
         b'b' => scan(true, text, flags, index),
+        b'N' => name(text, flags, index),
         b'r' => readers::turn(text, index, digit),
         b'p' => readers::pieces(text, index),
         b't' => readers::run(text, index, digit),

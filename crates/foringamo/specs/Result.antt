@@ -1,7 +1,8 @@
--- The structs of the C interface, of each answer: 01's numbers and values, and 0 where there is none. A refusal has its number, zero counts and stops, and the
--- carry passed in.
+-- The structs of the C interface, of each answer: 01's numbers and values, and 0 where there is none, but 255 where there is no name (02, Ask 1). A refusal has its
+-- number, zero counts and stops, no name, and the carry passed in.
 use Prim.Native.Nat.{ℕ}
 use mathlib.Core.Bool.{Bool, true, false}
+use Rattle.lexical.specs.Name.{unnamed}
 use Rattle.rules.specs.Scan.{InlineAnswer, foundInline, noInline, refusedInline, Found, BlockAnswer, foundBlock, noBlock, refusedBlock}
 use Rattle.rules.specs.Trace.{Record, eventRecord, lastRecord, refusedRecord}
 use Rattle.rules.specs.Withhold.{Shown, shows, refusedShown}
@@ -18,9 +19,9 @@ flag true = 1
 flag false = 0
 
 abbrev pub blockResult : BlockAnswer → BlockResult
-blockResult (foundBlock b) = record { refusal = 0; kind = b .kind; closed = flag (b .closed); stop = b .stop }
-blockResult noBlock = record { refusal = 0; kind = 0; closed = 0; stop = 0 }
-blockResult (refusedBlock n) = record { refusal = n; kind = 0; closed = 0; stop = 0 }
+blockResult (foundBlock b) = record { refusal = 0; kind = b .kind; closed = flag (b .closed); name = b .name; stop = b .stop }
+blockResult noBlock = record { refusal = 0; kind = 0; closed = 0; name = unnamed; stop = 0 }
+blockResult (refusedBlock n) = record { refusal = n; kind = 0; closed = 0; name = unnamed; stop = 0 }
 
 abbrev pub inlineResult : InlineAnswer → InlineResult
 inlineResult (foundInline stop carry) = record { refusal = 0; found = 1; carry = carry; stop = stop }

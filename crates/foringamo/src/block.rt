@@ -10,6 +10,7 @@ use crate::traced::trace_result;
 use flow::html_flow::kind_number;
 use flow::scan::Block;
 use flow::scan::block_scan;
+use lexical::constant::NO_NAME;
 use trace::block::block_trace;
 
 // What a block scan gives.
@@ -21,6 +22,8 @@ pub struct BlockResult {
     pub kind: u8,
     // 1: a closer was met.
     pub closed: u8,
+    // The place of the name among those of kind 1 or 6. 255: there is none.
+    pub name: u8,
     pub stop: usize,
 }
 
@@ -36,6 +39,7 @@ pub extern "C" fn foringamo_block_scan(bulletin: &[u8], flags: &[u8], index: usi
                 refusal: 0,
                 kind: kind_number(kind),
                 closed: found.closed as u8,
+                name: found.name,
                 stop: found.stop,
             }
         }
@@ -43,12 +47,14 @@ pub extern "C" fn foringamo_block_scan(bulletin: &[u8], flags: &[u8], index: usi
             refusal: 0,
             kind: 0,
             closed: 0,
+            name: NO_NAME,
             stop: 0,
         },
         Block::Refused { refusal } => BlockResult {
             refusal,
             kind: 0,
             closed: 0,
+            name: NO_NAME,
             stop: 0,
         },
     }

@@ -59,9 +59,11 @@ returns-3 c =
     let name = c .before .before .before .before .before .before .before .from-indices .ensures ∙ name-cut line (a .at) end ends in
     let place = c .before .before .before .before .before .before .raw-place .ensures ∙ ap rawPlace name in
     let slash = ap (λ (x : ℕ). eqb x 47) (sym (c .before .before .before .before .before .peek .ensures)) in
-    let basic = c .before .before .before .block-place .ensures ∙ ap blockPlace name in
-    (c .basic-self-closing .ensures .0
-    ∙ sym (block-name line (a .at) end ends (a .rules) (a .flag) (a .closing) _ _ (sym (c .before .before .before .before .before .before .before .before .before .is-name-break .ensures) ∙ not-false _ (c .before .before .before .before .before .before .before .before .if1 .left)) (raw-place-is _ _ place) slash (c .before .before .before .before .if2 .left) (block-place-is _ _ basic ∙ rw (ne-eqb _ _ (c .before .before .if3 .taken))) ∙ rw (c .before .if4 .taken)), c .basic-self-closing .ensures .1 _ basic)
+    let basic = c .before .before .before .block-place .ensures ∙ ap blockPlace name in (
+      c .basic-self-closing .ensures .0
+          ∙ sym (block-name line (a .at) end ends (a .rules) (a .flag) (a .closing) _ _ (sym (c .before .before .before .before .before .before .before .before .before .is-name-break .ensures) ∙ not-false _ (c .before .before .before .before .before .before .before .before .if1 .left)) (raw-place-is _ _ place) slash (c .before .before .before .before .if2 .left) (block-place-is _ _ basic ∙ rw (ne-eqb _ _ (c .before .before .if3 .taken))) ∙ rw (c .before .if4 .taken)),
+      c .basic-self-closing .ensures .1 _ basic,
+    )
 
 returns-4 : tie.Need-returns-4
 returns-4 c =
@@ -87,9 +89,11 @@ returns-5 c =
     let name = c .before .before .before .before .before .before .from-indices .ensures ∙ name-cut line (a .at) end ends in
     let place = c .before .before .before .before .before .raw-place .ensures ∙ ap rawPlace name in
     let slash = ap (λ (x : ℕ). eqb x 47) (sym (c .before .before .before .before .peek .ensures)) in
-    let basic = c .before .before .block-place .ensures ∙ ap blockPlace name in
-    (c .complete .ensures .0
-    ∙ sym (other-name line (a .at) end ends (a .rules) (a .flag) (a .closing) _ _ (sym (c .before .before .before .before .before .before .before .before .is-name-break .ensures) ∙ not-false _ (c .before .before .before .before .before .before .before .if1 .left)) (raw-place-is _ _ place) slash (c .before .before .before .if2 .left) (block-place-is _ _ basic ∙ rw (c .before .if3 .left))), c .complete .ensures .1 _)
+    let basic = c .before .before .block-place .ensures ∙ ap blockPlace name in (
+      c .complete .ensures .0
+          ∙ sym (other-name line (a .at) end ends (a .rules) (a .flag) (a .closing) _ _ (sym (c .before .before .before .before .before .before .before .before .is-name-break .ensures) ∙ not-false _ (c .before .before .before .before .before .before .before .if1 .left)) (raw-place-is _ _ place) slash (c .before .before .before .if2 .left) (block-place-is _ _ basic ∙ rw (c .before .if3 .left))),
+      c .complete .ensures .1 _,
+    )
 
 pub tag-name-spec : {M : Type 1} → statement M
 tag-name-spec =
