@@ -85,7 +85,9 @@ const HTML_RAW_NAMES: [u8; 22] = *b"prescriptstyletextarea";
 
 const HTML_RAW_OFFSETS: [usize; 5] = [0, 3, 9, 14, 22];
 
-// The place of what is no name of a list.
+// The place of the first name of a list, and that of what is no name.
+const FIRST_PLACE: u8 = 0;
+
 pub const NO_NAME: u8 = 255;
 
 // The length of the longest raw name.
@@ -171,7 +173,7 @@ pub fn block_place(name: &[u8]) -> u8
 {
     let table = block_names();
     let offsets = block_offsets();
-    place_of(name, &table, &offsets, 0)
+    place_of(name, &table, &offsets, FIRST_PLACE)
 }
 
 // The place of the bytes among the 4 raw names, letter case ignored.
@@ -180,7 +182,7 @@ pub fn raw_place(name: &[u8]) -> u8
 {
     let table = raw_names();
     let offsets = raw_offsets();
-    place_of(name, &table, &offsets, 0)
+    place_of(name, &table, &offsets, FIRST_PLACE)
 }
 
 fn cdata_prefix() -> [u8; 6]
