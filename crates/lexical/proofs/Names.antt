@@ -11,8 +11,8 @@ use borrow.Author.Tests.{ltb-true, ltb-false, leb-true, ne-eqb}
 use lib.ListN.{length, getD, take, drop}
 use Rattle.lexical.specs.Byte.{within, isDigit, lower}
 use Rattle.lexical.specs.Text.{byte}
-use Rattle.lexical.specs.Name.{blockNames, rawNames, sameBytes, isMember, isBlockName, isRawName, unnamed, placeFrom, blockPlace, rawPlace, nameBytes, nameOffsets, cut, all, chain, rising}
-use Rattle.lexical.proofs.Cases.{and-left, and-right, split}
+use Rattle.lexical.specs.Name.{blockNames, rawNames, sameBytes, isMember, isBlockName, isRawName, unnamed, placeFrom, blockPlace, rawPlace, StandsAt, nameBytes, nameOffsets, cut, all, chain, rising}
+use Rattle.lexical.proofs.Cases.{and-left, and-right, split, clash}
 use Rattle.lexical.proofs.Suffix.{suffix-in, suffix-out}
 use Rattle.lexical.proofs.Same.{same-equal}
 use Rattle.lexical.proofs.Table.{all-at, chain-at}
@@ -188,3 +188,35 @@ module _ (n : List ℕ) (place : ℕ) where
   pub raw-place-is : place ≡ rawPlace n → isRawName n ≡ not (eqb place unnamed)
   unfolding isRawName rawPlace
   raw-place-is e = place-member 0 (map lower n) rawNames (omega (arith, names-few rawNames raw-sound)) ∙ ap (λ p. not (eqb p unnamed)) (sym e)
+
+-- ---- the name at the place is it
+-- in a list whose first name has the place k
+abbrev StandsFrom : ℕ → List ℕ → List (List ℕ) → ℕ → Type 0
+StandsFrom k n names p = (k ≤ p) × ((p < k + length names) × (getD names (p - k) [] ≡ n))
+
+stands-first : (k : ℕ) (n x : List ℕ) (xs : List (List ℕ)) → n ≡ x → StandsFrom k n (x ∷ xs) k
+stands-first k n x xs e = let z : k - k ≡ 0 = omega arith in (omega arith, (omega arith, rw z (sym e)))
+
+stands-behind : (k : ℕ) (n x : List ℕ) (xs : List (List ℕ)) (p : ℕ) → StandsFrom (suc k) n xs p → StandsFrom k n (x ∷ xs) p
+stands-behind k n x xs p (a, (b, c)) = let z : p - k ≡ suc (p - suc k) = omega arith in (omega arith, (omega arith, rw z c))
+
+stands-from : (k : ℕ) (n : List ℕ) (names : List (List ℕ)) → isMember n names ≡ true → StandsFrom k n names (placeFrom k n names)
+unfolding isMember placeFrom
+stands-from k n [] h = clash false h refl
+stands-from k n (x ∷ xs) h =
+    split (sameBytes n x) (λ e. rw e (stands-first k n x xs (same-equal n x e))) (λ e. rw e (stands-behind k n x xs _ (stands-from (suc k) n xs (rw e at h))))
+
+module _ (n : List ℕ) where
+  stands : (names : List (List ℕ)) → isMember (map lower n) names ≡ true → StandsAt names n (placeFrom 0 (map lower n) names)
+  stands names h =
+      let s = stands-from 0 (map lower n) names h in
+      let z : placeFrom 0 (map lower n) names - 0 ≡ placeFrom 0 (map lower n) names = omega arith in
+      record { within = omega (arith, s .1 .0); there = rw z at (s .1 .1) }
+
+  pub block-stands : isBlockName n ≡ true → StandsAt blockNames n (blockPlace n)
+  unfolding isBlockName blockPlace
+  block-stands h = stands blockNames h
+
+  pub raw-stands : isRawName n ≡ true → StandsAt rawNames n (rawPlace n)
+  unfolding isRawName rawPlace
+  raw-stands h = stands rawNames h

@@ -1,9 +1,10 @@
 -- Names of tags, from CommonMark 0.31.2, section 4.6, and the CDATA prefix.
-use Prim.Native.Nat.{ℕ, suc, _+_, _-_}
+use Prim.Native.Nat.{ℕ, suc, _+_, _-_, _<_}
+use mathlib.Core.Path.{_≡_}
 use mathlib.Core.Bool.{Bool, true, false, _&&_, _||_}
 use mathlib.Core.List.{List, [], _∷_, _++_, map}
 use lib.Dec.{eqb, leb, ltb}
-use lib.ListN.{length, take, drop}
+use lib.ListN.{length, getD, take, drop}
 use Rattle.lexical.specs.Text.{bytes, pick}
 use Rattle.lexical.specs.Byte.{lower}
 
@@ -113,6 +114,11 @@ blockPlace n = placeFrom 0 (map lower n) blockNames
 
 unfoldable pub rawPlace : List ℕ → ℕ
 rawPlace n = placeFrom 0 (map lower n) rawNames
+
+-- a list has a name at a place, letter case ignored
+pub record StandsAt (names : List (List ℕ)) (n : List ℕ) (place : ℕ) : Type 0 where
+  pub within : place < length names
+  pub there : getD names place [] ≡ map lower n
 
 -- 6.6: a CDATA section begins with `<![CDATA[`; what follows `<![`
 unfoldable pub cdataPrefix : List ℕ

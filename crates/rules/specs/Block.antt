@@ -80,9 +80,12 @@ placeIn k n = choose (eqb k 1) (λ _. rawPlace n) (λ _. choose (eqb k 6) (λ _.
 abbrev pub tagName : List ℕ → List ℕ
 tagName s = choose (begins (bytes "</") s) (λ _. nameOf (drop 2 s)) (λ _. nameOf (drop 1 s))
 
+abbrev pub lineName : Line → List ℕ
+lineName l = tagName (drop (indentation (l .content)) (l .content))
+
 -- of a line that opens kind k
 unfoldable pub placeOf : ℕ → Line → ℕ
-placeOf k l = placeIn k (tagName (drop (indentation (l .content)) (l .content)))
+placeOf k l = placeIn k (lineName l)
 
 -- ---- end conditions
 -- 1: an end tag with a raw name, which need not be the start tag's

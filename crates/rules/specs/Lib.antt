@@ -6,6 +6,7 @@ pub mod Lines
 pub mod Block
 pub mod Refusal
 pub mod Scan
+pub mod Carried
 pub mod Trace
 pub mod Withhold
 pub mod Rows
