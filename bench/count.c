@@ -58,6 +58,9 @@ int main(int count, char **words)
     } else if (!strcmp(input, "tags")) {
         repeat("a <b>x</b> <i>y</i> z\n");
         call = withholds;
+    } else if (!strcmp(input, "blocks")) {
+        repeat("<td>x</td>\n\n");
+        call = withholds;
     } else {
         return 2;
     }

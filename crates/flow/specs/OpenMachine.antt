@@ -1,5 +1,5 @@
--- The openings of html_flow.rt, in the order of the code: the kind of a line from its tag's name on. It need not be believed: no public contract cites it, and
--- proofs/OpenMeans.antt shows that it is the kind of the rules.
+-- The openings of html_flow.rt, in the order of the code: the kind of a line from its tag's name on, and the name that an opening carries. It need not be
+-- believed: no public contract cites it, and proofs/OpenMeans.antt shows that the kind is that of the rules.
 use Prim.Native.Nat.{ℕ, suc}
 use mathlib.Core.Path.{_≡_}
 use mathlib.Core.Bool.{Bool, true, false, _&&_, _||_, not}

@@ -1,6 +1,6 @@
--- The two tables of names. One computed test says of both that their bytes are lower case letters or digits, their names are in order and fewer than the number
--- that stands for none, their offsets rise and cut just the names; the laws turn it into the rule at each entry. Then the lookup: one turn compares a name with
--- the part between two offsets.
+-- The two tables of names. One computed test says of both that their bytes are lower case letters or digits, their names are in order, their offsets rise
+-- and cut just the names; the laws turn it into the rule at each entry. Then the lookup: one turn compares a name with the part between two offsets; and what the
+-- place that it gives says of the name.
 use mathlib.Core.Path.{_≡_, refl, sym, _∙_, ap}
 use mathlib.Core.Bool.{Bool, true, false, _&&_, _||_, not}
 use mathlib.Core.List.{List, [], _∷_, map}
@@ -52,7 +52,7 @@ cuts names = sameNames (cut (nameBytes names) (nameOffsets 0 names)) names
 unfoldable pub sound : List (List ℕ) → Bool
 sound names =
     all isLowerByte (nameBytes names)
-    && (chain before names && (rising (length (nameBytes names)) (nameOffsets 0 names) && (cuts names && ltb (length names) unnamed)))
+    && (chain before names && (rising (length (nameBytes names)) (nameOffsets 0 names) && cuts names))
 
 pub tables-sound : (sound blockNames && sound rawNames) ≡ true
 unfolding sound sameNames sameBytes all chain rising cut nameBytes nameOffsets blockNames rawNames
@@ -64,10 +64,14 @@ block-sound = and-left (sound blockNames) (sound rawNames) tables-sound
 pub raw-sound : sound rawNames ≡ true
 raw-sound = and-right (sound blockNames) (sound rawNames) tables-sound
 
--- 01: 62 names, 294 bytes, 63 offsets
+-- 01: 62 names and 4; 294 bytes, 63 offsets
 pub block-count : length blockNames ≡ 62
 unfolding blockNames
 block-count = refl
+
+pub raw-count : length rawNames ≡ 4
+unfolding rawNames
+raw-count = refl
 
 pub block-length : length (nameBytes blockNames) ≡ 294
 unfolding blockNames nameBytes
@@ -93,39 +97,30 @@ module _ (names : List (List ℕ)) (e : sound names ≡ true) where
   abbrev rise : Bool
   rise = rising (length (nameBytes names)) (nameOffsets 0 names)
 
-  abbrev few : Bool
-  few = ltb (length names) unnamed
-
-  rest : (order && (rise && (cuts names && few))) ≡ true
+  rest : (order && (rise && cuts names)) ≡ true
   unfolding sound
-  rest = and-right lows (order && (rise && (cuts names && few))) e
+  rest = and-right lows (order && (rise && cuts names)) e
 
   pub lower-at : (k : ℕ) → k < length (nameBytes names) → isLowerByte (getD (nameBytes names) k 0) ≡ true
   unfolding sound
-  lower-at k h = all-at 0 isLowerByte (nameBytes names) (and-left lows (order && (rise && (cuts names && few))) e) k h
+  lower-at k h = all-at 0 isLowerByte (nameBytes names) (and-left lows (order && (rise && cuts names)) e) k h
 
   pub order-at : (k : ℕ) → k + 1 < length names → before (getD names k []) (getD names (k + 1) []) ≡ true
-  order-at k h = chain-at [] before names (and-left order (rise && (cuts names && few)) rest) k h
+  order-at k h = chain-at [] before names (and-left order (rise && cuts names) rest) k h
 
   pub offsets-rise : rise ≡ true
-  offsets-rise = and-left rise (cuts names && few) (and-right order (rise && (cuts names && few)) rest)
-
-  cuts-few : (cuts names && few) ≡ true
-  cuts-few = and-right rise (cuts names && few) (and-right order (rise && (cuts names && few)) rest)
+  offsets-rise = and-left rise (cuts names) (and-right order (rise && cuts names) rest)
 
   pub cut-is : cut (nameBytes names) (nameOffsets 0 names) ≡ names
-  cut-is = same-names (cut (nameBytes names) (nameOffsets 0 names)) names (and-left (cuts names) few cuts-few)
-
-  pub names-few : length names < unnamed
-  names-few = ltb-true (length names) unnamed (and-right (cuts names) few cuts-few)
+  cut-is = same-names (cut (nameBytes names) (nameOffsets 0 names)) names (and-right rise (cuts names) (and-right order (rise && cuts names) rest))
 
   -- a table and its offsets as the code has them
   module _ (table offsets : List ℕ) (t : table ≡ nameBytes names) (o : offsets ≡ nameOffsets 0 names) where
     pub table-rises : rising (length table) offsets ≡ true
     table-rises = rw (t, o) offsets-rise
 
-    pub offsets-few : 0 + length offsets ≤ unnamed
-    offsets-few = let m : length offsets ≡ suc (length names) = ap length o ∙ offsets-length 0 names in omega (arith, m, names-few)
+    pub offsets-count : length offsets ≡ suc (length names)
+    offsets-count = ap length o ∙ offsets-length 0 names
 
     pub names-are : cut table offsets ≡ names
     names-are = rw (t, o, cut-is)
@@ -178,16 +173,16 @@ place-member : (k : ℕ) (n : List ℕ) (names : List (List ℕ)) → k + length
 unfolding isMember placeFrom
 place-member k n [] h = refl
 place-member k n (x ∷ xs) h =
-    split (sameBytes n x) (λ e. let u = ne-eqb k 255 (λ z. omega arith) in rw (e, u)) (λ e. rw e (place-member (suc k) n xs (omega arith)))
+    split (sameBytes n x) (λ e. let u = ne-eqb k unnamed (λ z. omega arith) in rw (e, u)) (λ e. rw e (place-member (suc k) n xs (omega arith)))
 
 module _ (n : List ℕ) (place : ℕ) where
   pub block-place-is : place ≡ blockPlace n → isBlockName n ≡ not (eqb place unnamed)
   unfolding isBlockName blockPlace
-  block-place-is e = place-member 0 (map lower n) blockNames (omega (arith, names-few blockNames block-sound)) ∙ ap (λ p. not (eqb p unnamed)) (sym e)
+  block-place-is e = place-member 0 (map lower n) blockNames (omega (arith, block-count)) ∙ ap (λ p. not (eqb p unnamed)) (sym e)
 
   pub raw-place-is : place ≡ rawPlace n → isRawName n ≡ not (eqb place unnamed)
   unfolding isRawName rawPlace
-  raw-place-is e = place-member 0 (map lower n) rawNames (omega (arith, names-few rawNames raw-sound)) ∙ ap (λ p. not (eqb p unnamed)) (sym e)
+  raw-place-is e = place-member 0 (map lower n) rawNames (omega (arith, raw-count)) ∙ ap (λ p. not (eqb p unnamed)) (sym e)
 
 -- ---- the name at the place is it
 -- in a list whose first name has the place k

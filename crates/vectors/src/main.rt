@@ -1,12 +1,16 @@
 // The cases that are made by hand; what a line asks, and the form of its answer, stand in crates/cases. In their order:
 //
-// 96 of a line (`n`): every name of both lists, names near to them, and lines with tabs or blank.
+// 452 of a line (`n`): every name of both lists in small letters, in capitals and in both, and with a letter more, one fewer, and the last or first one changed; more
+// that are near to a name; and lines with tabs or blank. The places are those of the lists in constant.rs of the Rust crate markdown 1.0.0.
 //
 // 432 of both scans: of the 103 inline cases (`i`) 69 are 01's rows for html_text.rs, more of the same kinds, and the refusals 4, 5 and 6; of the 329 block cases
 // (`b`) 271 are 01's rows for html_flow.rs, more of the same kinds, and the refusals 2, 3 and 4. The last 92 are from CommonMark 0.31.2 (CC BY-SA 4.0): each `<` of
 // the 20 examples of Raw HTML (34 cases; a paragraph is a text), and in 42 of the 44 examples of HTML blocks, those without containers, each line outside a block that
 // begins with `<` behind spaces (58 cases; the flag is 2 behind a line of a paragraph, else 0). The answers are those of the Rust crate markdown 1.0.0; the refusals
 // are 01's table.
+//
+// 311 of the name that a block carries (`N`): every name in an open and a closing tag, before `/>` and with a letter more, and the rows of 02, Ask 1; each kind, none,
+// and the refusals 2, 3 and 4. The kinds are 01's, the places as above.
 //
 // 79 of traces: the bytes of written traces (`I`, `B`) are those of the Rust crate markdown 1.0.0, from compare; records read (`e`) and refusals are worked out by hand.
 //

@@ -1,6 +1,7 @@
 use mathlib.Core.Path.{_∙_, ap}
 use Rattle.lexical.specs.Name.{placeFrom, blockPlace, blockNames}
-use Rattle.lexical.proofs.Names.{block-sound, table-rises, offsets-few, names-are}
+use Rattle.lexical.proofs.Names.{block-sound, block-count, table-rises, offsets-count, names-are}
+use native.Mathlib.Omega.{arith}
 use borrow.Author.Needs.{needs}
 use Rattle.lexical.proofs.constant.block_place.Statement.{statement}
 use Rattle.lexical.proofs.constant.block_place.Tie as tie
@@ -21,7 +22,7 @@ place-of-requires : tie.Need-place-of-requires
 place-of-requires c κs =
     let table = c .before .before .before .block-names .ensures in
     let offsets = c .before .before .block-offsets .ensures in
-    (table-rises blockNames block-sound _ _ table offsets, offsets-few blockNames block-sound _ _ table offsets)
+    (table-rises blockNames block-sound _ _ table offsets, omega (arith, offsets-count blockNames block-sound _ _ table offsets, block-count))
 
 returns : tie.Need-returns
 unfolding blockPlace

@@ -1,6 +1,7 @@
 use mathlib.Core.Path.{_∙_, ap}
 use Rattle.lexical.specs.Name.{placeFrom, rawPlace, rawNames}
-use Rattle.lexical.proofs.Names.{raw-sound, table-rises, offsets-few, names-are}
+use Rattle.lexical.proofs.Names.{raw-sound, raw-count, table-rises, offsets-count, names-are}
+use native.Mathlib.Omega.{arith}
 use borrow.Author.Needs.{needs}
 use Rattle.lexical.proofs.constant.raw_place.Statement.{statement}
 use Rattle.lexical.proofs.constant.raw_place.Tie as tie
@@ -21,7 +22,7 @@ place-of-requires : tie.Need-place-of-requires
 place-of-requires c κs =
     let table = c .before .before .before .raw-names .ensures in
     let offsets = c .before .before .raw-offsets .ensures in
-    (table-rises rawNames raw-sound _ _ table offsets, offsets-few rawNames raw-sound _ _ table offsets)
+    (table-rises rawNames raw-sound _ _ table offsets, omega (arith, offsets-count rawNames raw-sound _ _ table offsets, raw-count))
 
 returns : tie.Need-returns
 unfolding rawPlace
