@@ -154,19 +154,23 @@ module _ (table offsets : List ℕ) (k : ℕ) where
       split (ltb k (length offsets)) (λ t. rw (suffix-in offsets k (ltb-true k (length offsets) t), suffix-out offsets (k + 1) h))
       (λ t. rw (suffix-out offsets k (ltb-false k (length offsets) t)))
 
-  -- one turn: the name is that one, or is looked for behind it
-  module _ (n : List ℕ) (place : ℕ) where
-    pub hit : k + 1 < length offsets → sameBytes n part ≡ true → placeFrom place n namesFrom ≡ place
-    unfolding placeFrom
-    hit h t = ap (placeFrom place n) (names-in h) ∙ rw t
+  -- the place of a name among them, where the first of all has the place `first`
+  module _ (n : List ℕ) (first : ℕ) where
+    abbrev pub placeBehind : ℕ
+    placeBehind = placeFrom (first + k) n namesFrom
 
-    pub miss : k + 1 < length offsets → sameBytes n part ≡ false → placeFrom (place + 1) n (cut table (drop (k + 1) offsets)) ≡ placeFrom place n namesFrom
+    -- one turn: the name is that one, or is looked for behind it
+    pub hit : k + 1 < length offsets → sameBytes n part ≡ true → placeBehind ≡ first + k
     unfolding placeFrom
-    miss h t = let z : place + 1 ≡ suc place = omega arith in sym (ap (placeFrom place n) (names-in h) ∙ rw (t, z))
+    hit h t = ap (placeFrom (first + k) n) (names-in h) ∙ rw t
 
-    pub no-more : length offsets ≤ k + 1 → placeFrom place n namesFrom ≡ unnamed
+    pub miss : k + 1 < length offsets → sameBytes n part ≡ false → placeFrom (first + (k + 1)) n (cut table (drop (k + 1) offsets)) ≡ placeBehind
     unfolding placeFrom
-    no-more h = ap (placeFrom place n) (names-out h)
+    miss h t = let z : first + (k + 1) ≡ suc (first + k) = omega arith in sym (ap (placeFrom (first + k) n) (names-in h) ∙ rw (t, z))
+
+    pub no-more : length offsets ≤ k + 1 → placeBehind ≡ unnamed
+    unfolding placeFrom
+    no-more h = ap (placeFrom (first + k) n) (names-out h)
 
 -- ---- the place says whether it is there
 place-member : (k : ℕ) (n : List ℕ) (names : List (List ℕ)) → k + length names ≤ unnamed → isMember n names ≡ not (eqb (placeFrom k n names) unnamed)

@@ -129,15 +129,13 @@ fn place_of(name: &[u8], table: &[u8], offsets: &[usize], first: u8) -> u8
     requires { ⌜ first + length (now offsets) ≤ unnamed ⌝ }
     ensures { λ r. ⌜ r ≡ placeFrom first (map lower (now (name .entry))) (cut (now (table .entry)) (now (offsets .entry))) ⌝ }
 {
-    let mut place = first;
     let mut k = 0;
     while k + 1 < offsets.len() {
         let start = offsets[k];
         let end = offsets[k + 1];
         if same_lower(name, &table[start..end]) {
-            return place;
+            return first + k as u8;
         }
-        place += 1;
         k += 1;
     }
     NO_NAME

@@ -1,26 +1,24 @@
--- The invariant: no name before offset `k` is it, so its place among those from there on, the first of which has the place `place`, is its place among all.
+-- The invariant: no name before offset `k` is it, so its place among those from there on is its place among all.
 use mathlib.Core.Path.{_≡_, refl, sym, _∙_}
 use mathlib.Core.List.{map}
 use Prim.Native.Nat.{_≤_, _+_, _-_}
 use native.Mathlib.Omega.{arith}
 use lib.ListN.{length}
 use Rattle.lexical.specs.Byte.{lower}
-use Rattle.lexical.specs.Name.{unnamed, placeFrom, cut}
-use Rattle.lexical.proofs.Names.{rises, within-table, namesFrom, hit, miss, no-more}
+use Rattle.lexical.specs.Name.{placeFrom, cut}
+use Rattle.lexical.proofs.Names.{rises, within-table, placeBehind, hit, miss, no-more}
 use borrow.Author.Needs.{needs}
 use Rattle.lexical.proofs.constant.place_of.Statement.{statement}
 use Rattle.lexical.proofs.constant.place_of.Tie as tie
 
 abbrev Inv-loop : tie.InvT-loop
-Inv-loop name table offsets first place₀ k₀ place k =
-    (k ≤ length offsets)
-    × ((place + length offsets ≤ unnamed + k) × (placeFrom place (map lower name) (namesFrom table offsets k) ≡ placeFrom first (map lower name) (cut table offsets)))
+Inv-loop name table offsets first k₀ k = (k ≤ length offsets) × (placeBehind table offsets k (map lower name) first ≡ placeFrom first (map lower name) (cut table offsets))
 
 abbrev μ-loop : tie.MeasureT-loop
-μ-loop name table offsets first place₀ k₀ place k = length offsets - k
+μ-loop name table offsets first k₀ k = length offsets - k
 
 loop-holds : tie.Need-loop-holds Inv-loop μ-loop
-loop-holds c = (search needs, (omega (arith, c .before .before .before .pre .1), refl))
+loop-holds c = let a = c .before .before .before .args in let z : a .first + 0 ≡ a .first = omega arith in (search needs, rw z)
 
 add-loop : tie.Need-add-loop Inv-loop μ-loop
 add-loop c = search needs
@@ -52,13 +50,14 @@ part-same-lower-end c = let at-loop = c .before .before .before in within-table 
 same-lower-requires : tie.Need-same-lower-requires Inv-loop μ-loop
 same-lower-requires c κs = search needs
 
-returns : tie.Need-returns Inv-loop μ-loop
-returns c = let at-loop = c .before .before .before .before .before .before in sym (hit _ _ (at-loop .loop .k) _ _ (c .before .before .before .before .before .loop-test .taken) (sym (c .before .same-lower .ensures) ∙ c .if1 .taken)) ∙ at-loop .loop .inv .1 .1
+cast-result : tie.Need-cast-result Inv-loop μ-loop
+cast-result c = omega (arith, c .before .before .before .before .before .before .before .before .before .before .pre .1, c .before .before .before .before .before .loop-test .taken)
 
-add-place : tie.Need-add-place Inv-loop μ-loop
-add-place c =
-    let at-loop = c .before .before .before .before .before .before in
-    omega (arith, at-loop .loop .inv .1 .0, c .before .before .before .before .before .loop-test .taken)
+add-result : tie.Need-add-result Inv-loop μ-loop
+add-result c = omega (arith, c .before .before .before .before .before .before .before .before .before .before .pre .1, c .before .before .before .before .before .loop-test .taken)
+
+returns : tie.Need-returns Inv-loop μ-loop
+returns c = let at-loop = c .before .before .before .before .before .before in sym (hit _ _ (at-loop .loop .k) _ _ (c .before .before .before .before .before .loop-test .taken) (sym (c .before .same-lower .ensures) ∙ c .if1 .taken)) ∙ at-loop .loop .inv .1
 
 add-k : tie.Need-add-k Inv-loop μ-loop
 add-k c = search needs
@@ -69,10 +68,10 @@ loop-less c = search needs
 loop-again : tie.Need-loop-again Inv-loop μ-loop
 loop-again c =
     let at-loop = c .before .before .before .before .before .before in
-    (omega arith, (omega (arith, at-loop .loop .inv .1 .0), miss _ _ (at-loop .loop .k) _ _ (c .before .before .before .before .before .loop-test .taken) (sym (c .before .same-lower .ensures) ∙ c .if1 .left) ∙ at-loop .loop .inv .1 .1))
+    (omega arith, miss _ _ (at-loop .loop .k) _ _ (c .before .before .before .before .before .loop-test .taken) (sym (c .before .same-lower .ensures) ∙ c .if1 .left) ∙ at-loop .loop .inv .1)
 
 returns-2 : tie.Need-returns-2 Inv-loop μ-loop
-returns-2 c = let at-loop = c .before in sym (no-more _ _ (at-loop .loop .k) _ _ (c .loop-test .left)) ∙ at-loop .loop .inv .1 .1
+returns-2 c = let at-loop = c .before in sym (no-more _ _ (at-loop .loop .k) _ _ (c .loop-test .left)) ∙ at-loop .loop .inv .1
 
 pub place-of-spec : {M : Type 1} → statement M
 place-of-spec =
@@ -91,8 +90,9 @@ place-of-spec =
     part-same-lower-start
     part-same-lower-end
     same-lower-requires
+    cast-result
+    add-result
     returns
-    add-place
     add-k
     loop-less
     loop-again
