@@ -67,6 +67,6 @@ Names r n = openingName r ≡ placeIn (openingNumber r) n
 abbrev pub Unnamed : Opening → Type 0
 Unnamed r = (n : List ℕ) → Names r n
 
--- it has no list, or the place passed in is that of n among the block names
+-- the same of every n whose place among the block names was passed in
 abbrev pub NamesBasic : Opening → ℕ → Type 0
 NamesBasic r name = (n : List ℕ) → name ≡ blockPlace n → Names r n
