@@ -17,22 +17,18 @@ use Rattle.rules.specs.Search.{choose, begins, past, exactly}
 use Rattle.rules.specs.Tag.{blockTags, attributes, openTag, closingTag}
 use Rattle.rules.specs.Block.{nameOf, afterName, nameEnds, startsRaw, basicName, startsBasic, fillsLine, startsComplete, mayStart, kindAt}
 use Rattle.rules.specs.declared.Rules.{Rules}
+use Rattle.rules.proofs.NameLaws.{no-name}
 use Rattle.rules.proofs.Past.{past-run, past-none}
 use Rattle.flow.specs.CompleteMachine.{endOf, nameBeforeOf, valueQuotedAfterOf, runOf}
 use Rattle.flow.proofs.CompleteMeans.{open-is}
 use Rattle.flow.specs.OpenMachine.{selfClosingOf, completesOf, completeOf, tagNameOf, declarationOpenOf, tagCloseStartOf, openOf}
 
 -- ---- names that begin with no letter
-first-of-name : (s : List ℕ) → isLetter (first (nameOf s)) ≡ true → isLetter (first s) ≡ true
-unfolding run
-first-of-name [] h = h
-first-of-name (x ∷ xs) h = split (isTagNameByte x) (λ b. rw b at h) (λ b. clash false (rw b at h) refl)
-
 no-raw-name : (s : List ℕ) → isLetter (first s) ≡ false → isRawName (nameOf s) ≡ false
-no-raw-name s e = split (isRawName (nameOf s)) (λ r. clash (isLetter (first s)) (first-of-name s (raw-first (nameOf s) r)) e) (λ r. r)
+no-raw-name = no-name isRawName raw-first
 
 no-block-name : (s : List ℕ) → isLetter (first s) ≡ false → isBlockName (nameOf s) ≡ false
-no-block-name s e = split (isBlockName (nameOf s)) (λ r. clash (isLetter (first s)) (first-of-name s (block-first (nameOf s) r)) e) (λ r. r)
+no-block-name = no-name isBlockName block-first
 
 -- ---- behind `<` and a byte that is no letter
 module _ (ρ : Rules) (f : ℕ) where

@@ -1,13 +1,12 @@
--- A line that opens kind 1 or 6 has a raw or a block name behind `<` or `</`, and that is the name which it carries: where `/` follows `<`, no name stands between
--- them.
-use mathlib.Core.Path.{_≡_, refl, ap}
+-- A line that opens kind 1 or 6 has a raw or a block name behind `<` or `</`, and that is the name which it carries: where `/` follows `<`, none stands there.
+use mathlib.Core.Path.{_≡_, refl}
 use mathlib.Core.Bool.{Bool, true, false, _&&_, _||_}
 use mathlib.Core.List.{List, [], _∷_}
 use Prim.Native.Nat.{ℕ}
 use lib.Dec.{eqb, leb}
 use lib.ListN.{drop}
 use borrow.Author.Tests.{eqb-true}
-use Rattle.lexical.specs.Text.{byte, bytes, first, run}
+use Rattle.lexical.specs.Text.{byte, bytes, first}
 use Rattle.lexical.specs.Byte.{isLetter}
 use Rattle.lexical.specs.Name.{isBlockName, isRawName}
 use Rattle.lexical.proofs.Cases.{split, clash, and-left, and-right}
@@ -18,6 +17,7 @@ use Rattle.rules.specs.Lines.{Line}
 use Rattle.rules.specs.Block.{nameOf, afterName, nameEnds, startsRaw, basicName, startsBasic, startsComplete, mayStart, kindAt, indentation, kindOf, tagName, lineName, placeOf}
 use Rattle.rules.specs.Carried.{CarriesName}
 use Rattle.rules.specs.declared.Rules.{Rules}
+use Rattle.rules.proofs.NameLaws.{no-name}
 
 -- ---- the condition that holds, by the kind
 -- the kind by the tests of its conditions, in their order
@@ -49,22 +49,20 @@ kind-tells ρ f s =
     (startsComplete ρ s && mayStart ρ f)
 
 -- ---- the name, of a line behind its indentation
--- where `/` follows `<`, no name stands between
-no-name : (s : List ℕ) → begins (bytes "</") s ≡ true → nameOf (drop 1 s) ≡ []
-unfolding run
-no-name [] h = clash false h refl
-no-name (x ∷ []) h = clash false (and-right (eqb x (byte "<")) false h) refl
-no-name (x ∷ y ∷ s) h =
+-- where `/` follows `<`, no letter does
+slash-first : (s : List ℕ) → begins (bytes "</") s ≡ true → isLetter (first (drop 1 s)) ≡ false
+slash-first [] h = clash false h refl
+slash-first (x ∷ []) h = refl
+slash-first (x ∷ y ∷ s) h =
     let e = eqb-true y (byte "/") (and-left (eqb y (byte "/")) true (and-right (eqb x (byte "<")) (eqb y (byte "/") && true) h)) in rw e
 
--- a name that begins with a letter, as those of both lists do, is the tag's
+-- so a name of a list whose names begin with a letter is the tag's
 module _ (isName : List ℕ → Bool) (letter : (n : List ℕ) → isName n ≡ true → isLetter (first n) ≡ true) (s : List ℕ) where
-  pub behind-mark : isName (nameOf (drop 1 s)) ≡ true → isName (tagName s) ≡ true
+  behind-mark : isName (nameOf (drop 1 s)) ≡ true → isName (tagName s) ≡ true
   behind-mark h =
-      split (begins (bytes "</") s) (λ e. clash (isLetter (first (nameOf (drop 1 s)))) (letter (nameOf (drop 1 s)) h) (ap (λ n. isLetter (first n)) (no-name s e)))
-      (λ e. rw e h)
+      split (begins (bytes "</") s) (λ e. clash (isName (nameOf (drop 1 s))) h (no-name isName letter (drop 1 s) (slash-first s e))) (λ e. rw e h)
 
-  pub behind-slash : begins (bytes "</") s ≡ true → isName (nameOf (drop 2 s)) ≡ true → isName (tagName s) ≡ true
+  behind-slash : begins (bytes "</") s ≡ true → isName (nameOf (drop 2 s)) ≡ true → isName (tagName s) ≡ true
   behind-slash e h = rw e h
 
 raw-name : (s : List ℕ) → startsRaw s ≡ true → isRawName (tagName s) ≡ true

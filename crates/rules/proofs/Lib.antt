@@ -1,5 +1,6 @@
 pub mod Complete
 pub mod Changes
+pub mod NameLaws
 pub mod Carried
 pub mod Comment
 pub mod Past
