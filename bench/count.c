@@ -1,12 +1,14 @@
 /*
- * One call again and again, for bench/count.sh: 'count INPUT' scans or withholds 16,000 bytes 200 times, and writes what the answers add up to.
+ * One call again and again, for bench/count.sh and bench/place.sh: 'count INPUT' scans or withholds 16,000 bytes 200 times, and writes what the answers add up to;
+ * 'count INPUT time' does so 100 times, and writes the least time of a call in microseconds.
  */
 #include "foringamo.h"
 
 #include <stdio.h>
 #include <string.h>
+#include <time.h>
 
-enum { LENGTH = 16000, ROUNDS = 200, LINE = 73 };
+enum { LENGTH = 16000, ROUNDS = 200, TIMES = 100, LINE = 73 };
 
 static uint8_t text[LENGTH], flags[LENGTH + 1], out[LENGTH];
 static size_t lines = 1;
@@ -33,17 +35,45 @@ static size_t scans(void)
     return answer.refusal + answer.found + answer.stop;
 }
 
+static size_t finds_block(void)
+{
+    foringamo_block answer = foringamo_block_scan(text, LENGTH, flags, lines, 0);
+    return answer.refusal + answer.kind + answer.stop;
+}
+
 static size_t withholds(void)
 {
     foringamo_shown answer = foringamo_withhold(text, LENGTH, flags, lines, out, LENGTH);
     return answer.refusal + answer.pieces + answer.length;
 }
 
+static size_t rounds(size_t (*call)(void))
+{
+    size_t sum = 0;
+    for (int i = 0; i < ROUNDS; i++)
+        sum += call();
+    return sum;
+}
+
+/* Of so many times the rounds: the least time of a call. */
+static double least(size_t (*call)(void))
+{
+    double best = 0;
+    for (int i = 0; i < TIMES; i++) {
+        clock_t began = clock();
+        volatile size_t sum = rounds(call);
+        double took = 1e6 * (double)(clock() - began) / CLOCKS_PER_SEC / ROUNDS;
+        (void)sum;
+        if (i == 0 || took < best)
+            best = took;
+    }
+    return best;
+}
+
 int main(int count, char **words)
 {
-    const char *input = count == 2 ? words[1] : "";
+    const char *input = count > 1 ? words[1] : "";
     size_t (*call)(void) = scans;
-    size_t sum = 0;
     if (!strcmp(input, "comment")) {
         enclose("<!--", "x", "-->");
     } else if (!strcmp(input, "value")) {
@@ -61,13 +91,17 @@ int main(int count, char **words)
     } else if (!strcmp(input, "blocks")) {
         repeat("<td>x</td>\n\n");
         call = withholds;
+    } else if (!strcmp(input, "long")) {
+        enclose("<div>\n", "the stairs are shut until noon\n", "</div>");
+        call = finds_block;
     } else {
         return 2;
     }
     for (size_t i = 0; i < LENGTH; i++)
         lines += text[i] == '\n';
-    for (int i = 0; i < ROUNDS; i++)
-        sum += call();
-    printf("%zu\n", sum);
+    if (count == 3 && !strcmp(words[2], "time"))
+        printf("%.2f\n", least(call));
+    else
+        printf("%zu\n", rounds(call));
     return 0;
 }
