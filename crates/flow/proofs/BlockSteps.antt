@@ -15,7 +15,7 @@ use Rattle.lexical.proofs.Cases.{split}
 use Rattle.lexical.proofs.Suffix.{suffix-in, suffix-out, suffix-next}
 use Rattle.lexical.proofs.Ending.{ending-out}
 use Rattle.rules.specs.Lines.{Line, line, flagged, linesOf}
-use Rattle.rules.specs.Block.{Extent, endsBefore, closes, goesOn, kindOf, placeOf, extentOf, stopAfter}
+use Rattle.rules.specs.Block.{Extent, endsBefore, closes, goesOn, kindOf, placeOf, extentOf, inLast, stopAfter}
 use Rattle.rules.specs.Scan.{found, BlockAnswer, foundBlock, noBlock, blockOf}
 use Rattle.rules.specs.declared.Rules.{Rules}
 use Rattle.rules.proofs.Cut.{behind, behind-none, content-length, lead-length, to-within, lineFrom, lineTo}
@@ -171,7 +171,7 @@ module _ (ρ : Rules) (s flags : List ℕ) (i n : ℕ) (to f : ℕ) (content : L
     opened = ap (blockOf ρ i) all-lines ∙ rw (e, z) (ap (λ t. foundBlock (found k t (stopAfter i (x .lines) (firstLine ∷ others)) (x .closed))) (sym w))
 
     pub first-closes : closes ρ k content ≡ true → blockAnswerAt ≡ foundBlock (found k name to true)
-    unfolding extentOf stopAfter
+    unfolding extentOf inLast
     first-closes c = opened ∙ rw c (ap (λ t. foundBlock (found k name t true)) stopped)
 
     pub first-on : closes ρ k content ≡ false → (m : ℕ) → drop m flags ≡ drop 1 (drop n flags) → blockAnswerAt ≡ continuationStartOf ρ k name s flags to m

@@ -43,15 +43,23 @@ unfolding run
 run-same f g e [] = refl
 run-same f g e (x ∷ xs) = split (g x) (λ h. simp (e x ∙ h, h) (ap suc (run-same f g e xs))) (λ h. simp (e x ∙ h, h))
 
--- what no byte of a class in front changes is the same behind the class
-pub behind : {A : Type 0} (f : ℕ → Bool) (P : List ℕ → A) → ((x : ℕ) (xs : List ℕ) → f x ≡ true → P (x ∷ xs) ≡ P xs) → (s : List ℕ) → P s ≡ P (drop (run f s) s)
-unfolding run
-behind f P e [] = refl
-behind f P e (x ∷ xs) = split (f x) (λ h. simp h (e x xs h ∙ behind f P e xs)) (λ h. simp h)
+-- what is said of an index and the bytes from there on, and no byte of a class in front changes, is the same behind the class
+module _ {A : Type 0} (f : ℕ → Bool) (P : ℕ → List ℕ → A) (e : (i x : ℕ) (xs : List ℕ) → f x ≡ true → P i (x ∷ xs) ≡ P (i + 1) xs) where
+  behind : (i : ℕ) (s : List ℕ) → P i s ≡ P (i + run f s) (drop (run f s) s)
+  unfolding run
+  behind i [] = let z : i + 0 ≡ i = omega arith in rw z
+  behind i (x ∷ xs) =
+      let z : i + 0 ≡ i = omega arith in
+      let o : i + 1 + run f xs ≡ i + suc (run f xs) = omega arith in
+      split (f x) (λ h. rw h (e i x xs h ∙ behind (i + 1) xs ∙ ap (λ j. P j (drop (run f xs) xs)) o)) (λ h. rw (h, z))
 
+  pub behind-from : (s : List ℕ) (i j : ℕ) → j ≡ runEnd f s i → P i (drop i s) ≡ P j (drop j s)
+  behind-from s i j h = behind i (drop i s) ∙ ap (P (runEnd f s i)) (drop-drop (run f (drop i s)) i s) ∙ ap (λ n. P n (drop n s)) (sym h)
+
+-- and so is what is said of the bytes alone
 pub behind-at : {A : Type 0} (f : ℕ → Bool) (P : List ℕ → A) → ((x : ℕ) (xs : List ℕ) → f x ≡ true → P (x ∷ xs) ≡ P xs)
     → (s : List ℕ) (i j : ℕ) → j ≡ runEnd f s i → P (drop i s) ≡ P (drop j s)
-behind-at f P e s i j h = behind f P e (drop i s) ∙ ap P (drop-drop (run f (drop i s)) i s ∙ ap (λ n. drop n s) (sym h))
+behind-at f P e = behind-from f (λ i. P) (λ i. e)
 
 -- ---- several bytes at once
 many : (f : ℕ → Bool) (n : ℕ) (s : List ℕ) → n ≤ length s → all f (take n s) ≡ true → run f s ≡ n + run f (drop n s)

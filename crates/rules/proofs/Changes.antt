@@ -3,9 +3,9 @@
 use mathlib.Core.Path.{_≡_, refl, sym, _∙_, ap}
 use mathlib.Core.Bool.{Bool, true, false, _&&_, _||_, not}
 use mathlib.Core.List.{List, [], _∷_}
-use Prim.Native.Nat.{ℕ}
+use Prim.Native.Nat.{ℕ, zero, suc, _+_}
 use lib.Dec.{leb, eqb}
-use lib.ListN.{drop}
+use lib.ListN.{length, drop}
 use Rattle.lexical.specs.Text.{bytes, first}
 use Rattle.lexical.specs.Byte.{isLetter}
 use Rattle.lexical.specs.Name.{isRawName}
@@ -15,7 +15,7 @@ use Rattle.rules.specs.Search.{choose, begins, Left, left, nothing}
 use Rattle.rules.specs.Tag.{blockTags, openTag, closingTag}
 use Rattle.rules.specs.Inline.{carrying, keeping, htmlTag, rawHtml, readInline}
 use Rattle.rules.specs.Lines.{Line, isInterrupt}
-use Rattle.rules.specs.Block.{nameOf, startsRaw, startsBasic, fillsLine, startsComplete, mayStart, kindAt, indentation, kindOf, closes, goesOn, extentOf}
+use Rattle.rules.specs.Block.{nameOf, startsRaw, startsBasic, fillsLine, startsComplete, mayStart, kindAt, indentation, kindOf, beforeCloser, closes, goesOn, Extent, extentOf, inLast}
 use Rattle.rules.specs.Refusal.{inlineRefusal, blockRefusal}
 use Rattle.rules.specs.Scan.{inlineAt, inlineScan, Found, BlockAnswer, foundBlock, noBlock, blockFound, blockOf, linesAt, blockAt, blockScan}
 use Rattle.rules.specs.Changes.{Unchanged, NoneApplies}
@@ -59,9 +59,13 @@ module _ {A : Type 0} (refuses : Bool) (refused : A) (at : Rules → A) (unchang
 -- ---- kinds 1 to 6
 -- the end of a block reads only F1
 module _ (ρ σ : Rules) (e : ρ .f1 ≡ σ .f1) where
+  closer-alike : (k : ℕ) (s : List ℕ) → beforeCloser ρ k s ≡ beforeCloser σ k s
+  unfolding beforeCloser
+  closer-alike k s = simp e
+
   closes-alike : (k : ℕ) (s : List ℕ) → closes ρ k s ≡ closes σ k s
   unfolding closes
-  closes-alike k s = simp e
+  closes-alike k s = rw (closer-alike k s)
 
   goes-alike : (k : ℕ) (ls : List Line) → goesOn ρ k ls ≡ goesOn σ k ls
   unfolding goesOn
@@ -72,15 +76,32 @@ module _ (ρ σ : Rules) (e : ρ .f1 ≡ σ .f1) where
   unfolding extentOf
   extent-alike k l ls = simp (closes-alike, goes-alike)
 
+-- two counts of a line's bytes that agree give the same index in the last line
+last-alike : (f g : List ℕ → ℕ) → ((s : List ℕ) → f s ≡ g s) → (i n : ℕ) (ls : List Line) → inLast f i n ls ≡ inLast g i n ls
+unfolding inLast
+last-alike f g e i zero ls = refl
+last-alike f g e i (suc n) [] = refl
+last-alike f g e i (suc zero) (l ∷ ls) = rw (e (l .content))
+last-alike f g e i (suc (suc n)) (l ∷ []) = rw (e (l .content))
+last-alike f g e i (suc (suc n)) (l ∷ m ∷ ls) = last-alike f g e (i + length (l .content) + length (m .lead)) (suc n) (m ∷ ls)
+
+found-alike : (ρ σ : Rules) (k i : ℕ) (l : Line) (ls : List Line) (x y : Extent)
+    → ((s : List ℕ) → beforeCloser ρ k s ≡ beforeCloser σ k s) → x ≡ y → blockFound ρ k i l ls x ≡ blockFound σ k i l ls y
+found-alike ρ σ k i l ls x y e h = rw (h, last-alike (beforeCloser ρ k) (beforeCloser σ k) e i (y .lines) (l ∷ ls))
+
 -- and of kind 7 none
 module _ (ρ σ : Rules) where
+  seven-closer : (s : List ℕ) → beforeCloser ρ 7 s ≡ beforeCloser σ 7 s
+  unfolding beforeCloser
+  seven-closer s = refl
+
   seven-goes : (ls : List Line) → goesOn ρ 7 ls ≡ goesOn σ 7 ls
-  unfolding goesOn closes
+  unfolding goesOn closes beforeCloser
   seven-goes [] = refl
   seven-goes (l ∷ ls) = simp (seven-goes ls)
 
   seven-extent : (l : Line) (ls : List Line) → extentOf ρ 7 l ls ≡ extentOf σ 7 l ls
-  unfolding extentOf closes
+  unfolding extentOf closes beforeCloser
   seven-extent l ls = simp (seven-goes ls)
 
 -- ---- kind 7
@@ -182,7 +203,7 @@ same-bit false false b e = refl
 module _ (i : ℕ) (l : Line) (ls : List Line) where
   -- the answer from the kind
   abbrev foundOf : Rules → ℕ → Found
-  foundOf ρ n = blockFound n i l ls (extentOf ρ n l ls)
+  foundOf ρ n = blockFound ρ n i l ls (extentOf ρ n l ls)
 
   abbrev byKind : Rules → ℕ → BlockAnswer
   byKind ρ n = choose (eqb n 0) (λ _. noBlock) (λ _. foundBlock (foundOf ρ n))
@@ -193,12 +214,16 @@ module _ (i : ℕ) (l : Line) (ls : List Line) where
 
   by-bit : (ρ : Rules) (b : Bool) → kindOf ρ l ≡ choose b (λ _. 7) (λ _. 0)
       → blockOf ρ i (l ∷ ls) ≡ choose b (λ _. foundBlock (foundOf standard 7)) (λ _. noBlock)
-  by-bit ρ true e = by-kind ρ 7 e ∙ ap (λ x. foundBlock (blockFound 7 i l ls x)) (seven-extent ρ standard l ls)
+  by-bit ρ true e = by-kind ρ 7 e ∙ ap foundBlock (found-alike ρ standard 7 i l ls _ _ (seven-closer ρ standard) (seven-extent ρ standard l ls))
   by-bit ρ false e = by-kind ρ 0 e
 
   -- kinds 1 to 6 without F1 are the standard's
   pub block-without-F1 : (n : ℕ) → ((ρ : Rules) → kindOf ρ l ≡ n) → blockOf (without F1) i (l ∷ ls) ≡ blockOf standard i (l ∷ ls)
-  block-without-F1 n e = by-kind (without F1) n (e (without F1)) ∙ rw (extent-alike (without F1) standard refl n l ls) (sym (by-kind standard n (e standard)))
+  block-without-F1 n e =
+      by-kind (without F1) n (e (without F1))
+      ∙ ap (λ b. choose (eqb n 0) (λ _. noBlock) (λ _. foundBlock b))
+      (found-alike (without F1) standard n i l ls _ _ (closer-alike (without F1) standard refl n) (extent-alike (without F1) standard refl n l ls))
+      ∙ sym (by-kind standard n (e standard))
 
   by-kinds : Kinds (λ ρ. kindOf ρ l) → Unchanged (λ ρ. blockOf ρ i (l ∷ ls))
   by-kinds (fixed n e) h = h F1 ∙ block-without-F1 n e

@@ -8,4 +8,5 @@ pub mod Prefix
 pub mod Refusals
 pub mod Cut
 pub mod LineLaws
+pub mod BlockLaws
 pub mod Witness

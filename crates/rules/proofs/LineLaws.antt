@@ -11,7 +11,7 @@ use Rattle.lexical.specs.Text.{byte}
 use Rattle.lexical.specs.Line.{lineEnding, lineLength}
 use Rattle.lexical.proofs.Cases.{split}
 use Rattle.rules.specs.Lines.{Line, line, push, cutLines, flagged, linesOf}
-use Rattle.rules.specs.Block.{stopAfter}
+use Rattle.rules.specs.Block.{inLast, stopAfter}
 use Rattle.rules.proofs.Cut.{behind, behind-one, cut-first, lineFrom, lineTo}
 
 -- ---- flags
@@ -118,7 +118,7 @@ stop-from stop (suc n) [] = omega arith
 stop-from stop (suc n) (l ∷ ls) = let h = stop-from (stop + length (l .lead) + length (l .content)) n ls in omega arith
 
 pub stop-is : (n i : ℕ) (l : Line) (ls : List Line) → stopAfter i (suc n) (l ∷ ls) ≡ stopFrom (i + length (l .content)) n ls
-unfolding stopAfter stopFrom
+unfolding inLast stopFrom
 stop-is zero i l ls = refl
 stop-is (suc n) i l [] = refl
 stop-is (suc n) i l (m ∷ ls) = stop-is n (i + length (l .content) + length (m .lead)) m ls

@@ -2,13 +2,13 @@
 use Prim.Native.Nat.{ℕ, zero, suc, _+_, _%_}
 use mathlib.Core.Bool.{Bool, true, false, _&&_, _||_, not}
 use mathlib.Core.List.{List, [], _∷_}
-use lib.Dec.{eqb, leb}
+use lib.Dec.{eqb, leb, ltb}
 use lib.ListN.{length, take, drop}
 use Rattle.lexical.specs.Text.{byte, bytes, first, run}
 use Rattle.lexical.specs.Byte.{isLetter, isTagNameByte, isSpaceOrTab}
 use Rattle.lexical.specs.Name.{isBlockName, isRawName, unnamed, blockPlace, rawPlace}
 use Rattle.lexical.specs.Line.{isBlank, atLineEnd}
-use Rattle.rules.specs.Search.{choose, begins, somewhere, Left, left, nothing}
+use Rattle.rules.specs.Search.{choose, begins, before, Left, left, nothing}
 use Rattle.rules.specs.Tag.{blockTags, openTag, closingTag}
 use Rattle.rules.specs.Lines.{Line, isLazy, isInterrupt}
 use Rattle.rules.specs.declared.Rules.{Rules}
@@ -92,22 +92,26 @@ placeOf k l = placeIn k (lineName l)
 abbrev pub isRawEnd : List ℕ → Bool
 isRawEnd s = begins (bytes "</") s && (isRawName (nameOf (drop 2 s)) && begins (bytes ">") (afterName (drop 2 s)))
 
--- F1: a maximal, even, nonempty run of `]` before `>`; n of it stand just before s
-unfoldable pub closesEven : ℕ → List ℕ → Bool
-closesEven n [] = false
-closesEven n (x ∷ xs) =
-    choose (eqb x (byte "]")) (λ _. closesEven (suc n) xs)
-    (λ _. (eqb x (byte ">") && (not (eqb n 0) && eqb (n % 2) 0)) || closesEven 0 xs)
+-- F1: a maximal, even, nonempty run of `]` before `>`, of which the closer has the last two; n of it stand just before s
+unfoldable pub beforeEven : ℕ → List ℕ → ℕ
+beforeEven n [] = 0
+beforeEven n (x ∷ xs) =
+    choose (begins (bytes "]]>") (x ∷ xs) && eqb (n % 2) 0) (λ _. 0)
+    (λ _. suc (choose (eqb x (byte "]")) (λ _. beforeEven (suc n) xs) (λ _. beforeEven 0 xs)))
+
+-- how many bytes of a line stand before the closer of kind k, the earliest in it (02, Ask 2); all, where it has none
+unfoldable pub beforeCloser : Rules → ℕ → List ℕ → ℕ
+beforeCloser ρ k s =
+    choose (eqb k 1) (λ _. before isRawEnd s)
+    (λ _. choose (eqb k 2) (λ _. before (begins (bytes "-->")) s)
+    (λ _. choose (eqb k 3) (λ _. before (begins (bytes "?>")) s)
+    (λ _. choose (eqb k 4) (λ _. before (begins (bytes ">")) s)
+    (λ _. choose (eqb k 5) (λ _. choose (ρ .f1) (λ _. beforeEven 0 s) (λ _. before (begins (bytes "]]>")) s))
+    (λ _. length s)))))
 
 -- a line contains the closer of kind k
 unfoldable pub closes : Rules → ℕ → List ℕ → Bool
-closes ρ k s =
-    choose (eqb k 1) (λ _. somewhere isRawEnd s)
-    (λ _. choose (eqb k 2) (λ _. somewhere (begins (bytes "-->")) s)
-    (λ _. choose (eqb k 3) (λ _. somewhere (begins (bytes "?>")) s)
-    (λ _. choose (eqb k 4) (λ _. somewhere (begins (bytes ">")) s)
-    (λ _. choose (eqb k 5) (λ _. choose (ρ .f1) (λ _. closesEven 0 s) (λ _. somewhere (begins (bytes "]]>")) s))
-    (λ _. false)))))
+closes ρ k s = ltb (beforeCloser ρ k s) (length s)
 
 -- ---- the block
 -- how many lines it takes, and whether a closer was met
@@ -136,10 +140,18 @@ goesOn ρ k (l ∷ ls) =
 unfoldable pub extentOf : Rules → ℕ → Line → List Line → Extent
 extentOf ρ k l ls = choose (closes ρ k (l .content)) (λ _. extent 1 true) (λ _. oneMore (goesOn ρ k ls))
 
--- where the content of the last of n lines ends, the first beginning at i
-unfoldable pub stopAfter : ℕ → ℕ → List Line → ℕ
-stopAfter i zero ls = i
-stopAfter i (suc n) [] = i
-stopAfter i (suc zero) (l ∷ ls) = i + length (l .content)
-stopAfter i (suc (suc n)) (l ∷ []) = i + length (l .content)
-stopAfter i (suc (suc n)) (l ∷ m ∷ ls) = stopAfter (i + length (l .content) + length (m .lead)) (suc n) (m ∷ ls)
+-- an index in the last of n lines, the first beginning at i: f says how many bytes of that line's content stand before it
+unfoldable pub inLast : (List ℕ → ℕ) → ℕ → ℕ → List Line → ℕ
+inLast f i zero ls = i
+inLast f i (suc n) [] = i
+inLast f i (suc zero) (l ∷ ls) = i + f (l .content)
+inLast f i (suc (suc n)) (l ∷ []) = i + f (l .content)
+inLast f i (suc (suc n)) (l ∷ m ∷ ls) = inLast f (i + length (l .content) + length (m .lead)) (suc n) (m ∷ ls)
+
+-- the end of its content
+abbrev pub stopAfter : ℕ → ℕ → List Line → ℕ
+stopAfter i n ls = inLast length i n ls
+
+-- 02, Ask 2: the first byte of the closer of kind k, or the end where there is none
+abbrev pub closerAfter : Rules → ℕ → ℕ → ℕ → List Line → ℕ
+closerAfter ρ k i n ls = inLast (beforeCloser ρ k) i n ls

@@ -7,7 +7,7 @@ use lib.Dec.{eqb}
 use lib.ListN.{length}
 use Rattle.lexical.specs.Text.{bytes, limit}
 use Rattle.lexical.specs.Name.{all, sameBytes}
-use Rattle.rules.specs.Reading.{crate}
+use Rattle.rules.specs.Reading.{crate, standard}
 use Rattle.rules.specs.Refusal.{refusal, tooLong, inlineRefusal, blockRefusal, bulletinRefusal}
 use Rattle.rules.specs.Scan.{foundInline, noInline, refusedInline, inlineScan, found, foundBlock, noBlock, refusedBlock, blockScan}
 use Rattle.rules.specs.Withhold.{shown, Shown, shows, refusedShown, withhold, written}
@@ -44,35 +44,54 @@ texts =
 unfoldable pub blocks : List Bool
 blocks =
     -- F1: behind another byte a run of `]` begins anew; an empty one does not close
-    blockRow (bytes "<![CDATA[]x]>") (0 ∷ []) (foundBlock (found 5 255 13 false))
-    ∷ blockRow (bytes "<![CDATA[>") (0 ∷ []) (foundBlock (found 5 255 10 false))
+    blockRow (bytes "<![CDATA[]x]>") (0 ∷ []) (foundBlock (found 5 255 13 false 13))
+    ∷ blockRow (bytes "<![CDATA[>") (0 ∷ []) (foundBlock (found 5 255 10 false 10))
     -- a raw end tag has its `>` right behind the name
-    ∷ blockRow (bytes "<pre>\n</pre x>") (0 ∷ 0 ∷ []) (foundBlock (found 1 0 14 false))
+    ∷ blockRow (bytes "<pre>\n</pre x>") (0 ∷ 0 ∷ []) (foundBlock (found 1 0 14 false 14))
     -- a lazy line ends every kind, also where it may interrupt
-    ∷ blockRow (bytes "<!--\nx") (0 ∷ 1 ∷ []) (foundBlock (found 2 255 4 false))
-    ∷ blockRow (bytes "<!--\nx") (0 ∷ 3 ∷ []) (foundBlock (found 2 255 4 false))
-    ∷ blockRow (bytes "<!--\nx") (0 ∷ 2 ∷ []) (foundBlock (found 2 255 6 false))
+    ∷ blockRow (bytes "<!--\nx") (0 ∷ 1 ∷ []) (foundBlock (found 2 255 4 false 4))
+    ∷ blockRow (bytes "<!--\nx") (0 ∷ 3 ∷ []) (foundBlock (found 2 255 4 false 4))
+    ∷ blockRow (bytes "<!--\nx") (0 ∷ 2 ∷ []) (foundBlock (found 2 255 6 false 6))
     -- a tab ends a name
-    ∷ blockRow (bytes "<div\tx") (0 ∷ []) (foundBlock (found 6 15 6 false))
-    ∷ blockRow (bytes "<pre\tx") (0 ∷ []) (foundBlock (found 1 0 6 false))
+    ∷ blockRow (bytes "<div\tx") (0 ∷ []) (foundBlock (found 6 15 6 false 6))
+    ∷ blockRow (bytes "<pre\tx") (0 ∷ []) (foundBlock (found 1 0 6 false 6))
     -- kind 6 in a closing tag, and before `/>`
-    ∷ blockRow (bytes "</div>x") (0 ∷ []) (foundBlock (found 6 15 7 false))
-    ∷ blockRow (bytes "<div/>x") (0 ∷ []) (foundBlock (found 6 15 7 false))
+    ∷ blockRow (bytes "</div>x") (0 ∷ []) (foundBlock (found 6 15 7 false 7))
+    ∷ blockRow (bytes "<div/>x") (0 ∷ []) (foundBlock (found 6 15 7 false 7))
     -- a line's own flag
-    ∷ sameBlock (blockScan crate (bytes "a\n<a>") (2 ∷ 0 ∷ []) 2) (foundBlock (found 7 255 5 false))
+    ∷ sameBlock (blockScan crate (bytes "a\n<a>") (2 ∷ 0 ∷ []) 2) (foundBlock (found 7 255 5 false 5))
     ∷ []
 
 -- 02, Ask 1: which name it was
 unfoldable pub names : List Bool
 names =
     -- the first and the last but one of the 62, letter case ignored
-    blockRow (bytes "<address") (0 ∷ []) (foundBlock (found 6 0 8 false))
-    ∷ blockRow (bytes "</TRACK/>") (0 ∷ []) (foundBlock (found 6 60 9 false))
+    blockRow (bytes "<address") (0 ∷ []) (foundBlock (found 6 0 8 false 8))
+    ∷ blockRow (bytes "</TRACK/>") (0 ∷ []) (foundBlock (found 6 60 9 false 9))
     -- behind the indentation; the list of kind 1 is another
-    ∷ blockRow (bytes " <TextArea>") (0 ∷ []) (foundBlock (found 1 3 11 false))
+    ∷ blockRow (bytes " <TextArea>") (0 ∷ []) (foundBlock (found 1 3 11 false 11))
     -- a raw name in a closing tag, and before `/>`, is of kind 7
-    ∷ blockRow (bytes "</pre>") (0 ∷ []) (foundBlock (found 7 255 6 false))
-    ∷ blockRow (bytes "<pre/>") (0 ∷ []) (foundBlock (found 7 255 6 false))
+    ∷ blockRow (bytes "</pre>") (0 ∷ []) (foundBlock (found 7 255 6 false 6))
+    ∷ blockRow (bytes "<pre/>") (0 ∷ []) (foundBlock (found 7 255 6 false 6))
+    ∷ []
+
+-- 02, Ask 2: where the closer stands
+unfoldable pub closers : List Bool
+closers =
+    -- it may share bytes with the opening, as 01 lets these close on their own line
+    blockRow (bytes "<!-->") (0 ∷ []) (foundBlock (found 2 255 5 true 2))
+    ∷ blockRow (bytes "<!--->") (0 ∷ []) (foundBlock (found 2 255 6 true 3))
+    ∷ blockRow (bytes "  <?>") (0 ∷ []) (foundBlock (found 3 255 5 true 3))
+    -- the earliest; its line's own bytes are counted behind the lines before
+    ∷ blockRow (bytes "<!A>>") (0 ∷ []) (foundBlock (found 4 255 5 true 3))
+    ∷ blockRow (bytes "<!--\r\n\n--->x-->") (0 ∷ 0 ∷ 0 ∷ []) (foundBlock (found 2 255 15 true 8))
+    -- a raw end tag's own `<`, whichever raw name it has
+    ∷ blockRow (bytes "<script></style></script>") (0 ∷ []) (foundBlock (found 1 1 25 true 8))
+    -- F1: an odd run of `]` is passed over; without F1 its last two bytes close
+    ∷ blockRow (bytes "<![CDATA[]]]>]]>") (0 ∷ []) (foundBlock (found 5 255 16 true 13))
+    ∷ sameBlock (blockScan standard (bytes "<![CDATA[]]]>]]>") (0 ∷ []) 0) (foundBlock (found 5 255 16 true 10))
+    -- where a lazy line keeps the closer out, it is the stop
+    ∷ blockRow (bytes "<!--\n-->") (0 ∷ 1 ∷ []) (foundBlock (found 2 255 4 false 4))
     ∷ []
 
 -- refusals: the first that applies, down the table
@@ -100,8 +119,8 @@ outputs =
     ∷ sameBytes (written 7 (bytes "ac") (bytes "xyz")) (bytes "xyz")
     ∷ []
 
-pub corners-hold : all (λ b. b) (texts ++ (blocks ++ (names ++ (refusals ++ outputs)))) ≡ true
-unfolding computing texts blocks names refusals outputs
+pub corners-hold : all (λ b. b) (texts ++ (blocks ++ (names ++ (closers ++ (refusals ++ outputs))))) ≡ true
+unfolding computing texts blocks names closers refusals outputs
 corners-hold = refl
 
 -- 1 comes before all others, from the first byte over the limit on

@@ -7,6 +7,7 @@ pub mod Block
 pub mod Refusal
 pub mod Scan
 pub mod Carried
+pub mod Closers
 pub mod Trace
 pub mod Withhold
 pub mod Rows

@@ -1,5 +1,5 @@
 -- The standard's words on strings: begins with, the first occurrence of, what is left after it.
-use Prim.Native.Nat.{ℕ}
+use Prim.Native.Nat.{ℕ, suc}
 use mathlib.Core.Bool.{Bool, true, false, _&&_, _||_}
 use mathlib.Core.List.{List, [], _∷_}
 use lib.Dec.{eqb}
@@ -20,6 +20,11 @@ begins (p ∷ ps) (x ∷ xs) = eqb x p && begins ps xs
 unfoldable pub somewhere : (List ℕ → Bool) → List ℕ → Bool
 somewhere f [] = false
 somewhere f (x ∷ xs) = f (x ∷ xs) || somewhere f xs
+
+-- how many bytes stand before the first such suffix; all, where there is none
+unfoldable pub before : (List ℕ → Bool) → List ℕ → ℕ
+before f [] = 0
+before f (x ∷ xs) = choose (f (x ∷ xs)) (λ _. 0) (λ _. suc (before f xs))
 
 -- what is left behind all bytes of a class
 unfoldable pub past : (ℕ → Bool) → List ℕ → List ℕ

@@ -5,14 +5,14 @@ use Prim.Native.Nat.{ℕ, zero, suc, _+_}
 use native.Mathlib.Omega.{arith}
 use lib.ListN.{length}
 use Rattle.rules.specs.Lines.{Line}
-use Rattle.rules.specs.Block.{stopAfter}
+use Rattle.rules.specs.Block.{inLast, stopAfter}
 use Rattle.rules.specs.Withhold.{Mark, blockFirst, blockMore, blank, paragraphFirst, paragraphMore, goesOn, linePieces}
 use Rattle.rules.specs.declared.Rules.{Rules}
 use Rattle.runs.proofs.Corresponding.{At, Corresponding, done, next, both, late-at}
 use Rattle.runs.proofs.Paragraph.{pieces-behind}
 
 pub stop-shift : (n : ℕ) (ls : List Line) (i k : ℕ) → stopAfter (i + k) n ls ≡ i + stopAfter k n ls
-unfolding stopAfter
+unfolding inLast
 stop-shift zero ls i k = refl
 stop-shift (suc n) [] i k = refl
 stop-shift (suc zero) (l ∷ ls) i k = omega arith

@@ -12,9 +12,10 @@ use Rattle.lexical.specs.Byte.{isLetter, isQuote}
 use Rattle.lexical.specs.Name.{all}
 use Rattle.lexical.proofs.Cases.{split, clash, excluded, and-left, and-right}
 use Rattle.rules.specs.Search.{past, somewhere, Left, left, throughFirst}
-use Rattle.rules.specs.Block.{isRawEnd, closesEven}
+use Rattle.rules.specs.Block.{isRawEnd}
 use Rattle.rules.specs.Private.{isPrivate, Form, closer, around, comment as Comment, instruction as Instruction, declaration as Declaration, cdata as Cdata}
 use Rattle.runs.proofs.Alike.{AtMost, Alike}
+use Rattle.runs.proofs.Closes.{closesEven}
 use Rattle.runs.proofs.InlineReads.{through-most}
 
 -- ---- over bytes that are not looked for

@@ -10,7 +10,7 @@ use Rattle.lexical.specs.Text.{byte}
 use Rattle.lexical.specs.Line.{isBlank}
 use Rattle.lexical.specs.Name.{all}
 use Rattle.rules.specs.Lines.{Line, line, linesOf}
-use Rattle.rules.specs.Block.{kindOf, closes, extentOf, stopAfter, goesOn as reaches}
+use Rattle.rules.specs.Block.{kindOf, closes, extentOf, inLast, stopAfter, goesOn as reaches}
 use Rattle.rules.specs.Withhold.{Mark, blockFirst, blockMore, blank, paragraphFirst, paragraphMore, marks, goesOn, inlinePieces, linePieces, pieces, shown, count}
 use Rattle.rules.specs.Private.{isPrivate, Form, around, any, spans, InlineSwap, WithheldBody, SameRuns}
 use Rattle.rules.specs.declared.Rules.{Rules}
@@ -89,7 +89,7 @@ module _ (ρ : Rules) (f : Form) (b₁ b₂ : List ℕ) (h₁ : all isPrivate b�
 
     -- the stop of a block
     stop-here : (n i : ℕ) → i + length a ≡ p → Same (stopAfter i n (line₁ ∷ later)) (stopAfter i n (line₂ ∷ later))
-    unfolding stopAfter
+    unfolding inLast
     stop-here zero i e = early i (omega arith)
     stop-here (suc zero) i e = late-at (length z) (omega (arith, content-length b₁)) (omega (arith, content-length b₂))
     stop-here (suc (suc n)) i e = by-later later
@@ -105,7 +105,7 @@ module _ (ρ : Rules) (f : Form) (b₁ b₂ : List ℕ) (h₁ : all isPrivate b�
 
     stop-earlier : (n : ℕ) (e : List Line) (l : Line) (i : ℕ) → i + length (l .content) + sizes e + length lead + length a ≡ p
         → Same (stopAfter i n (l ∷ one e)) (stopAfter i n (l ∷ two e))
-    unfolding stopAfter
+    unfolding inLast
     stop-earlier zero e l i h = early i (omega arith)
     stop-earlier (suc zero) e l i h = early (i + length (l .content)) (omega arith)
     stop-earlier (suc (suc n)) [] l i h = stop-here (suc n) (i + length (l .content) + length lead) (omega arith)

@@ -9,7 +9,7 @@ use lib.ListN.{length}
 use borrow.Author.Tests.{lt-leb}
 use Rattle.lexical.proofs.Cases.{split}
 use Rattle.rules.specs.Lines.{Line, line}
-use Rattle.rules.specs.Block.{oneMore, closes, endsBefore, goesOn, extentOf, stopAfter}
+use Rattle.rules.specs.Block.{oneMore, closes, endsBefore, goesOn, extentOf, inLast, stopAfter}
 use Rattle.rules.specs.Withhold.{Mark, blockMore, marks, linePieces}
 use Rattle.rules.specs.declared.Rules.{Rules}
 use Rattle.runs.proofs.Corresponding.{Corresponding}
@@ -65,14 +65,14 @@ abbrev pub empty : Line
 empty = line 0 [] []
 
 stop-empty : (m i : ℕ) (l : Line) (ls : List Line) → stopAfter i (suc m) (l ∷ ls) ≡ stopAfter (i + length (l .content)) (suc m) (empty ∷ ls)
-unfolding stopAfter
+unfolding inLast
 stop-empty zero i l ls = omega arith
 stop-empty (suc m) i l [] = omega arith
 stop-empty (suc m) i l (x ∷ ls) = let e : i + length (l .content) + 0 ≡ i + length (l .content) = omega arith in rw e
 
 -- the stop of a block that goes over the lines x
 pub stop-through : (x back : List Line) (m i : ℕ) (l : Line) → length x ≤ m → stopAfter i (suc m) (l ∷ (x ++ back)) ≡ stopAfter (i + length (l .content) + sizes x) (suc (m - length x)) (empty ∷ back)
-unfolding stopAfter
+unfolding inLast
 stop-through [] back m i l h =
     let a : i + length (l .content) + 0 ≡ i + length (l .content) = omega arith in
     let b : m - 0 ≡ m = omega arith in
@@ -86,7 +86,7 @@ stop-through (y ∷ x) back (suc m) i l h =
 
 -- the stop of a block that ends within the lines x
 pub stop-bound : (x back : List Line) (m i : ℕ) (l : Line) → m < length x → stopAfter i (suc m) (l ∷ (x ++ back)) ≤ i + length (l .content) + sizes x
-unfolding stopAfter
+unfolding inLast
 stop-bound [] back m i l h = absurd (omega arith)
 stop-bound (y ∷ x) back zero i l h = omega arith
 stop-bound (y ∷ []) back (suc m) i l h = absurd (omega arith)
@@ -94,7 +94,7 @@ stop-bound (y ∷ z ∷ x) back (suc m) i l h =
     let w = stop-bound (z ∷ x) back m (i + length (l .content) + length (y .lead)) y (omega arith) in omega arith
 
 pub stop-within : (x s t : List Line) (m i : ℕ) (l : Line) → m < length x → stopAfter i (suc m) (l ∷ (x ++ s)) ≡ stopAfter i (suc m) (l ∷ (x ++ t))
-unfolding stopAfter
+unfolding inLast
 stop-within [] s t m i l h = absurd (omega arith)
 stop-within (y ∷ x) s t zero i l h = refl
 stop-within (y ∷ []) s t (suc m) i l h = absurd (omega arith)

@@ -1,5 +1,6 @@
 pub mod Corresponding
 pub mod Alike
+pub mod Closes
 pub mod Tags
 pub mod InlineReads
 pub mod Body

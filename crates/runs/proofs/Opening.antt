@@ -11,10 +11,11 @@ use Rattle.lexical.proofs.Cases.{excluded}
 use Rattle.rules.specs.Search.{choose, somewhere}
 use Rattle.rules.specs.Tag.{openTag, closingTag}
 use Rattle.rules.specs.Inline.{instruction, declaration, htmlTag, prefix, takes, rawHtml, readInline}
-use Rattle.rules.specs.Block.{kindAt, startsRaw, isRawEnd, closesEven}
+use Rattle.rules.specs.Block.{kindAt, startsRaw, isRawEnd}
 use Rattle.rules.specs.Private.{isPrivate, Form, closer, comment as Comment, instruction as Instruction, declaration as Declaration, cdata as Cdata}
 use Rattle.rules.specs.declared.Rules.{Rules}
 use Rattle.rules.proofs.Comment.{comment-is}
+use Rattle.runs.proofs.Closes.{closesEven}
 use Rattle.runs.proofs.Body.{inside, rest, private-other, private-calm, raw-over, even-over, comment-ends, instruction-ends, angle-ends, cdata-ends}
 
 -- ---- inline

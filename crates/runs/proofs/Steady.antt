@@ -13,10 +13,11 @@ use Rattle.lexical.proofs.Cases.{split, and-right}
 use Rattle.rules.specs.Search.{choose, begins, somewhere, Left, left, nothing, throughFirst}
 use Rattle.rules.specs.Tag.{blockTags, openTag, closingTag}
 use Rattle.rules.specs.Lines.{line}
-use Rattle.rules.specs.Block.{nameOf, afterName, nameEnds, startsRaw, basicName, startsBasic, fillsLine, startsComplete, kindAt, kindOf, isRawEnd, closesEven, closes}
+use Rattle.rules.specs.Block.{nameOf, afterName, nameEnds, startsRaw, basicName, startsBasic, fillsLine, startsComplete, kindAt, kindOf, isRawEnd, closes}
 use Rattle.rules.specs.Private.{isPrivate, Form, closer, comment as Comment, instruction as Instruction, declaration as Declaration, cdata as Cdata}
 use Rattle.rules.specs.declared.Rules.{Rules}
 use Rattle.rules.proofs.Past.{past-run}
+use Rattle.runs.proofs.Closes.{closesEven, closes-is}
 use Rattle.runs.proofs.Alike.{Alike, Pair, ahead, behind, Lefts, lefts, nothings, first-same, past-pair, name-same, run-same, begins-same, drop-pair, end-same, blank-same}
 use Rattle.runs.proofs.Tags.{open-lefts, close-lefts}
 use Rattle.runs.proofs.InlineReads.{through-lefts}
@@ -161,10 +162,9 @@ module _ (ρ : Rules) (f : Form) (b₁ b₂ q : List ℕ) (h₁ : all isPrivate 
   even-same n (behind s l) = refl
 
   pub closes-same : (k : ℕ) (u : List ℕ) → closes ρ k (u ++ (byte "<" ∷ w₁)) ≡ closes ρ k (u ++ (byte "<" ∷ w₂))
-  unfolding closes
   closes-same k u =
       let r : Pair w₁ w₂ q (u ++ (byte "<" ∷ w₁)) (u ++ (byte "<" ∷ w₂)) = ahead u in
-      rw (raw-same r, plain-same alike Comment r, plain-same alike Instruction r, plain-same alike (Declaration (byte "A") refl) r, plain-same alike Cdata r, even-same 0 r)
+      rw (closes-is ρ k (u ++ (byte "<" ∷ w₁)), closes-is ρ k (u ++ (byte "<" ∷ w₂)), raw-same r, plain-same alike Comment r, plain-same alike Instruction r, plain-same alike (Declaration (byte "A") refl) r, plain-same alike Cdata r, even-same 0 r)
 
 -- ---- a line of private bytes
 plain-quiet : (c : ℕ) (p s : List ℕ) → isPrivate c ≡ false → all isPrivate s ≡ true → somewhere (begins (c ∷ p)) s ≡ false
@@ -191,7 +191,6 @@ all-false false false false false true false = refl
 all-false false false false false false g = refl
 
 pub quiet : (ρ : Rules) (k : ℕ) (s : List ℕ) → all isPrivate s ≡ true → closes ρ k s ≡ false
-unfolding closes
 quiet ρ k s h =
-    rw (raw-quiet s h, plain-quiet (byte "-") (bytes "->") s refl h, plain-quiet (byte "?") (bytes ">") s refl h, plain-quiet (byte ">") [] s refl h, even-quiet s h, plain-quiet (byte "]") (bytes "]>") s refl h)
+    rw (closes-is ρ k s, raw-quiet s h, plain-quiet (byte "-") (bytes "->") s refl h, plain-quiet (byte "?") (bytes ">") s refl h, plain-quiet (byte ">") [] s refl h, even-quiet s h, plain-quiet (byte "]") (bytes "]>") s refl h)
     (all-false (eqb k 1) (eqb k 2) (eqb k 3) (eqb k 4) (eqb k 5) (ρ .f1))

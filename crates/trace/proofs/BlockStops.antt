@@ -15,7 +15,7 @@ use Rattle.lexical.proofs.Ending.{ends-out}
 use Rattle.rules.specs.Reading.{crate as ofCrate}
 use Rattle.rules.specs.Refusal.{tooLong, wrongCount, wrongFlag, blockRefusal}
 use Rattle.rules.specs.Lines.{Line}
-use Rattle.rules.specs.Block.{kindOf, extentOf, stopAfter}
+use Rattle.rules.specs.Block.{kindOf, extentOf, inLast, stopAfter}
 use Rattle.rules.specs.Scan.{Found, foundBlock, noBlock, refusedBlock, blockOf, linesAt, blockAt, blockScan}
 use Rattle.rules.proofs.Refusals.{not-met, given-passes, given-is, refused-by, refused-some}
 use Rattle.trace.proofs.Stops.{Between}
@@ -28,7 +28,7 @@ size-from text flags i = lines-size (drop (lineEndings (take i text)) flags) (dr
 
 -- ---- the stop
 stop-from : (i n : ℕ) (ls : List Line) → i ≤ stopAfter i n ls
-unfolding stopAfter
+unfolding inLast
 stop-from i zero ls = omega arith
 stop-from i (suc n) [] = omega arith
 stop-from i (suc zero) (l ∷ ls) = omega arith
@@ -36,7 +36,7 @@ stop-from i (suc (suc n)) (l ∷ []) = omega arith
 stop-from i (suc (suc n)) (l ∷ m ∷ ls) = let h = stop-from (i + length (l .content) + length (m .lead)) (suc n) (m ∷ ls) in omega arith
 
 stop-to : (i n : ℕ) (l : Line) (ls : List Line) → stopAfter i n (l ∷ ls) ≤ i + length (l .content) + sizes ls
-unfolding stopAfter
+unfolding inLast
 stop-to i zero l ls = omega arith
 stop-to i (suc zero) l ls = omega arith
 stop-to i (suc (suc n)) l [] = omega arith

@@ -17,7 +17,7 @@ use Rattle.lexical.proofs.Suffix.{suffix-in, suffix-out, suffix-next}
 use Rattle.lexical.proofs.Ending.{ending-out}
 use Rattle.lexical.proofs.Run.{run-length}
 use Rattle.rules.specs.Lines.{Line, line, cutLines, flagged, linesOf}
-use Rattle.rules.specs.Block.{kindOf, extentOf, stopAfter}
+use Rattle.rules.specs.Block.{kindOf, extentOf, inLast, stopAfter}
 use Rattle.rules.specs.Withhold.{Piece, piece, block, marks, goesOn, inlinePieces, linePieces}
 use Rattle.rules.specs.declared.Rules.{Rules}
 use Rattle.rules.proofs.Cut.{behind, behind-none, content-length, lead-length, lineFrom, lineTo}
@@ -85,7 +85,7 @@ module _ (text : List ℕ) (e from to : ℕ) (a : from ≡ lineFrom text e) (b :
 
 -- ---- the ending that leads to a line counts only in a paragraph
 stop-led : (i n f : ℕ) (e c : List ℕ) (ls : List Line) → stopAfter i n (line f e c ∷ ls) ≡ stopAfter i n (line f [] c ∷ ls)
-unfolding stopAfter
+unfolding inLast
 stop-led i zero f e c ls = refl
 stop-led i (suc zero) f e c ls = refl
 stop-led i (suc (suc n)) f e c [] = refl
