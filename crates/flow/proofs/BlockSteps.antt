@@ -15,15 +15,16 @@ use Rattle.lexical.proofs.Cases.{split}
 use Rattle.lexical.proofs.Suffix.{suffix-in, suffix-out, suffix-next}
 use Rattle.lexical.proofs.Ending.{ending-out}
 use Rattle.rules.specs.Lines.{Line, line, flagged, linesOf}
-use Rattle.rules.specs.Block.{Extent, endsBefore, closes, goesOn, kindOf, placeOf, extentOf, inLast, stopAfter}
-use Rattle.rules.specs.Scan.{found, BlockAnswer, foundBlock, noBlock, blockOf}
+use Rattle.rules.specs.Block.{endsBefore, beforeCloser, kindOf, placeOf, extentOf}
+use Rattle.rules.specs.Scan.{found, BlockAnswer, foundBlock, noBlock, blockFound, blockOf}
 use Rattle.rules.specs.declared.Rules.{Rules}
 use Rattle.rules.proofs.Cut.{behind, behind-none, content-length, lead-length, to-within, lineFrom, lineTo}
-use Rattle.rules.proofs.LineLaws.{contentFrom, stopFrom, stop-is, first-line, next-lines}
+use Rattle.rules.proofs.LineLaws.{contentFrom, first-line, next-lines}
+use Rattle.rules.proofs.BlockLaws.{goingOn, closes-at, closes-not, none-left, ended, closed-here, one-on, first-closed, first-goes}
 use Rattle.flow.specs.Answer.{kindNumber}
 use Rattle.flow.specs.declared.html_flow.Kind.{Kind}
 use Rattle.flow.specs.declared.html_flow.Kind.the-variants.{Raw, Comment, Instruction, Declaration, Cdata, Basic, Complete}
-use Rattle.flow.specs.BlockMachine.{wentOn, continuationStartOf}
+use Rattle.flow.specs.BlockMachine.{continuationStartOf}
 
 -- ---- flags
 -- the flags from the next line on
@@ -41,33 +42,11 @@ module _ (f : ℕ → Bool) (s : List ℕ) (i : ℕ) where
   unfolding all
   all-out h = rw (suffix-out s i h)
 
--- ---- the next line of an open block
-module _ (ρ : Rules) (k name : ℕ) where
-  abbrev pub goingOn : ℕ → List Line → BlockAnswer
-  goingOn stop ls = wentOn k name stop ls (goesOn ρ k ls)
-
-  pub none-left : (stop : ℕ) → goingOn stop [] ≡ foundBlock (found k name stop false)
-  unfolding goesOn stopFrom
-  none-left stop = refl
-
-  module _ (stop : ℕ) (l : Line) (ls : List Line) where
-    pub ended : endsBefore k l ≡ true → goingOn stop (l ∷ ls) ≡ foundBlock (found k name stop false)
-    unfolding goesOn stopFrom
-    ended h = rw h
-
-    pub closed-here : endsBefore k l ≡ false → closes ρ k (l .content) ≡ true → goingOn stop (l ∷ ls) ≡ foundBlock (found k name (stop + length (l .lead) + length (l .content)) true)
-    unfolding goesOn stopFrom
-    closed-here h c = rw (h, c)
-
-    pub one-on : endsBefore k l ≡ false → closes ρ k (l .content) ≡ false → goingOn stop (l ∷ ls) ≡ goingOn (stop + length (l .lead) + length (l .content)) ls
-    unfolding goesOn stopFrom
-    one-on h c = rw (h, c)
-
--- ---- the same at an index of a text
+-- ---- the next line of an open block, at an index of a text
 module _ (ρ : Rules) (k name : ℕ) (s flags : List ℕ) (i n : ℕ) where
-  pub no-line : lineEnding (drop i s) ≡ 0 → continuationStartOf ρ k name s flags i n ≡ foundBlock (found k name i false)
+  pub no-line : lineEnding (drop i s) ≡ 0 → continuationStartOf ρ k name s flags i n ≡ foundBlock (found k name i false i)
   unfolding continuationStartOf flagged
-  no-line e = rw (behind-none s i e) (none-left ρ k name i)
+  no-line e = rw (behind-none s i e) (ap foundBlock (none-left ρ k name i))
 
   -- the next line as the code reads it: where it begins, its flag and its content
   module _ (from f : ℕ) (content : List ℕ) (a : from ≡ lineFrom s i) (d : content ≡ contentFrom s from) (g : f ≡ getD (drop n flags) 0 0) (h : from ≡ i → ⊥) where
@@ -96,29 +75,34 @@ module _ (ρ : Rules) (k name : ℕ) (s flags : List ℕ) (i n : ℕ) where
         ∙ ap (λ t. line f lead t ∷ flagged (drop 1 (drop n flags)) (behind (drop (lineTo s i) s))) (sym content-is)
         ∙ ap (λ t. next ∷ flagged (drop 1 (drop n flags)) (behind (drop t s))) (sym to-is)
 
-    pub next-stop : i + length lead + length content ≡ to
-    next-stop = omega (arith, a, lead-length s i)
+    from-is : i + length lead ≡ from
+    from-is = omega (arith, a, lead-length s i)
 
-    pub line-ends : endsBefore k (line f [] content) ≡ true → continuationStartOf ρ k name s flags i n ≡ foundBlock (found k name i false)
+    goes : continuationStartOf ρ k name s flags i n ≡ foundBlock (goingOn ρ k name i (next ∷ rest))
     unfolding continuationStartOf
-    line-ends e = ap (goingOn ρ k name i) next-line ∙ ended ρ k name i next rest e
+    goes = ap (λ ls. foundBlock (goingOn ρ k name i ls)) next-line
 
-    pub line-closes : endsBefore k (line f [] content) ≡ false → closes ρ k content ≡ true → continuationStartOf ρ k name s flags i n ≡ foundBlock (found k name to true)
-    unfolding continuationStartOf
-    line-closes e c = ap (goingOn ρ k name i) next-line ∙ closed-here ρ k name i next rest e c ∙ ap (λ t. foundBlock (found k name t true)) next-stop
+    pub line-ends : endsBefore k (line f [] content) ≡ true → continuationStartOf ρ k name s flags i n ≡ foundBlock (found k name i false i)
+    line-ends e = goes ∙ ap foundBlock (ended ρ k name i next rest e)
 
-    pub line-on : endsBefore k (line f [] content) ≡ false → closes ρ k content ≡ false → (m : ℕ) → drop m flags ≡ drop 1 (drop n flags)
-        → continuationStartOf ρ k name s flags i n ≡ continuationStartOf ρ k name s flags to m
-    unfolding continuationStartOf
-    line-on e c m r =
-        ap (goingOn ρ k name i) next-line ∙ one-on ρ k name i next rest e c
-        ∙ ap (λ t. goingOn ρ k name t rest) next-stop ∙ ap (λ t. goingOn ρ k name to (flagged t (behind (drop to s)))) (sym r)
+    -- at bytes stand before the closer of a line that does not end the block
+    module _ (e : endsBefore k (line f [] content) ≡ false) (at : ℕ) (b : at ≡ beforeCloser ρ k content) where
+      pub line-closes : at < length content → continuationStartOf ρ k name s flags i n ≡ foundBlock (found k name to true (from + at))
+      line-closes c =
+          goes ∙ ap foundBlock (closed-here ρ k name i next rest e (closes-at ρ k content at b c))
+          ∙ ap (λ t. foundBlock (found k name (t + length content) true (t + beforeCloser ρ k content))) from-is ∙ ap (λ t. foundBlock (found k name to true (from + t))) (sym b)
+
+      pub line-on : length content ≤ at → (m : ℕ) → drop m flags ≡ drop 1 (drop n flags) → continuationStartOf ρ k name s flags i n ≡ continuationStartOf ρ k name s flags to m
+      unfolding continuationStartOf
+      line-on c m r =
+          goes ∙ ap foundBlock (one-on ρ k name i next rest e (closes-not ρ k content at b c))
+          ∙ ap (λ t. foundBlock (goingOn ρ k name (t + length content) rest)) from-is ∙ ap (λ t. foundBlock (goingOn ρ k name to (flagged t (behind (drop to s))))) (sym r)
 
   -- the text ends here, or no line ending stands here
-  pub text-over : length s ≤ i → continuationStartOf ρ k name s flags i n ≡ foundBlock (found k name i false)
+  pub text-over : length s ≤ i → continuationStartOf ρ k name s flags i n ≡ foundBlock (found k name i false i)
   text-over h = no-line (ending-out s i h)
 
-  pub same-from : (from : ℕ) → from ≡ lineFrom s i → from ≡ i → continuationStartOf ρ k name s flags i n ≡ foundBlock (found k name i false)
+  pub same-from : (from : ℕ) → from ≡ lineFrom s i → from ≡ i → continuationStartOf ρ k name s flags i n ≡ foundBlock (found k name i false i)
   same-from from a e = no-line (omega (arith, a, e))
 
 -- the next line ends within the text
@@ -163,24 +147,24 @@ module _ (ρ : Rules) (s flags : List ℕ) (i n : ℕ) (to f : ℕ) (content : L
   no-block e = ap (blockOf ρ i) all-lines ∙ rw e refl
 
   module _ (k name : ℕ) (e : kindOf ρ (line f [] content) ≡ k) (w : name ≡ placeOf k (line f [] content)) (z : eqb k 0 ≡ false) where
-    abbrev x : Extent
-    x = extentOf ρ k firstLine others
-
-    opened : blockAnswerAt ≡ foundBlock (found k name (stopAfter i (x .lines) (firstLine ∷ others)) (x .closed))
+    opened : blockAnswerAt ≡ foundBlock (blockFound ρ k i firstLine others (extentOf ρ k firstLine others))
     unfolding blockOf
-    opened = ap (blockOf ρ i) all-lines ∙ rw (e, z) (ap (λ t. foundBlock (found k t (stopAfter i (x .lines) (firstLine ∷ others)) (x .closed))) (sym w))
+    opened = ap (blockOf ρ i) all-lines ∙ rw (e, z)
 
-    pub first-closes : closes ρ k content ≡ true → blockAnswerAt ≡ foundBlock (found k name to true)
-    unfolding extentOf inLast
-    first-closes c = opened ∙ rw c (ap (λ t. foundBlock (found k name t true)) stopped)
+    -- at bytes stand before the closer
+    module _ (at : ℕ) (h : at ≡ beforeCloser ρ k content) where
+      pub first-closes : at < length content → blockAnswerAt ≡ foundBlock (found k name to true (i + at))
+      first-closes c =
+          opened ∙ ap foundBlock (first-closed ρ k i firstLine others (closes-at ρ k content at h c))
+          ∙ ap (λ t. foundBlock (found k t (i + length content) true (i + beforeCloser ρ k content))) (sym w)
+          ∙ ap (λ t. foundBlock (found k name t true (i + beforeCloser ρ k content))) stopped ∙ ap (λ t. foundBlock (found k name to true (i + t))) (sym h)
 
-    pub first-on : closes ρ k content ≡ false → (m : ℕ) → drop m flags ≡ drop 1 (drop n flags) → blockAnswerAt ≡ continuationStartOf ρ k name s flags to m
-    unfolding extentOf continuationStartOf
-    first-on c m r =
-        opened ∙ rw c
-        (ap (λ t. foundBlock (found k name t (goesOn ρ k others .closed))) (stop-is (goesOn ρ k others .lines) i firstLine others)
-        ∙ ap (λ t. wentOn k name t others (goesOn ρ k others)) stopped
-        ∙ ap (λ t. wentOn k name to (flagged t (behind (drop to s))) (goesOn ρ k (flagged t (behind (drop to s))))) (sym r))
+      pub first-on : length content ≤ at → (m : ℕ) → drop m flags ≡ drop 1 (drop n flags) → blockAnswerAt ≡ continuationStartOf ρ k name s flags to m
+      unfolding continuationStartOf
+      first-on c m r =
+          opened ∙ ap foundBlock (first-goes ρ k i firstLine others (closes-not ρ k content at h c))
+          ∙ ap (λ t. foundBlock (goingOn ρ k t (i + length content) others)) (sym w)
+          ∙ ap (λ t. foundBlock (goingOn ρ k name t others)) stopped ∙ ap (λ t. foundBlock (goingOn ρ k name to (flagged t (behind (drop to s))))) (sym r)
 
 -- every kind has a number
 pub has-number : (kind : Kind) → eqb (kindNumber kind) 0 ≡ false

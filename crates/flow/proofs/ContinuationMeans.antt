@@ -1,172 +1,219 @@
--- The run over a line meets a closer exactly where the line contains it. A closer `c c >` is met by three states, by how many of its bytes were seen just before;
--- with F1 the states of CDATA tell an odd run of `]` from an even one.
+-- The run over a line finds the closer where the rules say that it begins, and meets one exactly where the line contains it. A closer `c c >` is found by three
+-- states, by how many of its bytes were seen just before; with F1 the states of CDATA tell an odd run of `]` from an even one.
 use mathlib.Core.Path.{_≡_, refl, sym, _∙_, ap}
 use mathlib.Core.Bool.{Bool, true, false, _&&_, not}
 use mathlib.Core.List.{List, [], _∷_}
-use Prim.Native.Nat.{ℕ, suc, _%_}
+use Prim.Native.Nat.{ℕ, suc, _+_, _-_, _%_, _<_}
 use native.Mathlib.Omega.{arith}
-use lib.Dec.{eqb}
-use borrow.Author.Tests.{eqb-true, eq-eqb, ne-eqb}
+use lib.Dec.{eqb, ltb}
+use lib.ListN.{length}
+use borrow.Author.Tests.{eqb-true, eq-eqb, ne-eqb, lt-ltb, le-ltb}
 use Rattle.lexical.specs.Text.{byte, bytes, pick}
-use Rattle.lexical.proofs.Cases.{split, and-yes, and-no}
-use Rattle.rules.specs.Search.{choose, begins, somewhere}
-use Rattle.rules.specs.Block.{closesEven, closes}
+use Rattle.lexical.proofs.Cases.{split, clash, and-yes, and-no}
+use Rattle.rules.specs.Search.{choose, begins, before}
+use Rattle.rules.specs.Block.{beforeEven, beforeCloser, closes}
 use Rattle.rules.specs.declared.Rules.{Rules}
-use Rattle.flow.specs.ContinuationMachine.{continuationOf, commentInsideOf, cdataInsideOf, declarationInsideOf, nextOf, isClose, meetsOf}
+use Rattle.flow.specs.Answer.{kindNumber}
+use Rattle.flow.specs.ContinuationMachine.{continuationOf, commentInsideOf, cdataInsideOf, declarationInsideOf, nextOf, isClose, closerLength, closedAt, meetsOf}
 use Rattle.flow.specs.declared.html_flow.Kind.{Kind}
 use Rattle.flow.specs.declared.html_flow.Kind.the-variants.{Comment, Instruction, Declaration, Cdata}
 use Rattle.flow.specs.declared.html_flow.ContinuationName.{ContinuationName}
 use Rattle.flow.specs.declared.html_flow.ContinuationName.the-variants.{Continuation, ContinuationCommentInside, ContinuationCdataInside, ContinuationDeclarationInside, ContinuationClose}
+use Rattle.flow.proofs.ContinuationTurn.{on, here, met}
 
 module _ (ρ : Rules) where
-  -- the closer was met: nothing undoes it
-  closed-is : (κ : Kind) (s : List ℕ) → meetsOf ρ κ ContinuationClose s ≡ true
-  unfolding meetsOf
-  closed-is κ [] = refl
-  closed-is κ (x ∷ xs) = refl
-
   -- ---- declarations: `>`
-  declaration-is : (s : List ℕ) → meetsOf ρ Declaration Continuation s ≡ somewhere (begins (bytes ">")) s
-  unfolding meetsOf continuationOf somewhere
-  declaration-is [] = refl
-  declaration-is (x ∷ xs) = split (eqb x (byte ">")) (λ h. simp h (closed-is Declaration xs)) (λ h. simp h (declaration-is xs))
+  declaration-at : (i : ℕ) (s : List ℕ) → closedAt ρ Declaration Continuation i s ≡ i + before (begins (bytes ">")) s
+  unfolding closedAt continuationOf before
+  declaration-at i [] = omega arith
+  declaration-at i (x ∷ xs) = split (eqb x (byte ">")) (λ h. simp h (omega arith)) (λ h. simp h (declaration-at (i + 1) xs ∙ omega arith))
 
   -- ---- instructions: `?>`; behind a `?` too
-  abbrev Instr : List ℕ → Type 0
-  Instr s = meetsOf ρ Instruction Continuation s ≡ somewhere (begins (bytes "?>")) s
+  abbrev Instr0 : List ℕ → Type 0
+  Instr0 s = (i : ℕ) → closedAt ρ Instruction Continuation i s ≡ i + before (begins (bytes "?>")) s
 
-  abbrev InstrClose : List ℕ → Type 0
-  InstrClose s = meetsOf ρ Instruction ContinuationDeclarationInside s ≡ somewhere (begins (bytes "?>")) (byte "?" ∷ s)
+  abbrev Instr1 : List ℕ → Type 0
+  Instr1 s = (i : ℕ) → closedAt ρ Instruction ContinuationDeclarationInside (i + 1) s ≡ i + before (begins (bytes "?>")) (byte "?" ∷ s)
 
-  instr-step : (x : ℕ) (xs : List ℕ) → Instr xs → InstrClose xs → Instr (x ∷ xs)
-  unfolding meetsOf continuationOf somewhere
-  instr-step x xs a b = split (eqb x (byte "?")) (λ h. simp h b) (λ h. simp h a)
-
-  instr-close-step : (x : ℕ) (xs : List ℕ) → Instr (x ∷ xs) → InstrClose (x ∷ xs)
-  unfolding meetsOf declarationInsideOf somewhere
-  instr-close-step x xs a = split (eqb x (byte ">")) (λ h. simp h (closed-is Instruction xs)) (λ h. simp h a)
-
-  instr-both : (s : List ℕ) → Instr s × InstrClose s
-  unfolding meetsOf somewhere
-  instr-both [] = (refl, refl)
-  instr-both (x ∷ xs) =
-      let ih = instr-both xs in
-      let a = instr-step x xs (ih .0) (ih .1) in
-      (a, instr-close-step x xs a)
+  instr : (s : List ℕ) → Instr0 s × Instr1 s
+  unfolding closedAt continuationOf declarationInsideOf before
+  instr [] = ((λ i. omega arith), (λ i. omega arith))
+  instr (x ∷ xs) =
+      let ih = instr xs in (
+        (λ i. split (eqb x (byte "?")) (λ h. rw (eqb-true x (byte "?") h) (ih .1 i)) (λ h. simp h (ih .0 (i + 1) ∙ omega arith))),
+        (λ i. split (eqb x (byte ">")) (λ h. rw (eqb-true x (byte ">") h) (omega arith))
+            (λ h. split (eqb x (byte "?")) (λ g. rw (eqb-true x (byte "?") g) (ih .1 (i + 1) ∙ omega arith)) (λ g. simp (h, g) (ih .0 (i + 1 + 1) ∙ omega arith)))),
+      )
 
   -- ---- a closer of a byte c twice and `>`
-  module _ (κ : Kind) (c : ℕ) (one : ContinuationName) (same : eqb c c ≡ true) (not-yet : isClose one ≡ false)
+  module _ (κ : Kind) (c : ℕ) (one : ContinuationName) (same : eqb c c ≡ true) (not-yet : isClose one ≡ false) (three : closerLength κ ≡ 3)
       (at-none : (x : ℕ) → continuationOf κ x ≡ pick (eqb x c) one Continuation)
       (at-one : (x : ℕ) → nextOf ρ κ one x ≡ pick (eqb x c) ContinuationDeclarationInside (continuationOf κ x))
       (at-two : (x : ℕ) → declarationInsideOf ρ κ x ≡ pick (eqb x c) ContinuationDeclarationInside (pick (eqb x (byte ">")) ContinuationClose (continuationOf κ x)))
       (mark : eqb (byte ">") c ≡ false) where
-    abbrev contains : List ℕ → Bool
-    contains s = somewhere (begins (c ∷ c ∷ byte ">" ∷ [])) s
+    abbrev closer : List ℕ → Bool
+    closer s = begins (c ∷ c ∷ byte ">" ∷ []) s
 
     abbrev Seen0 : List ℕ → Type 0
-    Seen0 s = meetsOf ρ κ Continuation s ≡ contains s
+    Seen0 s = (i : ℕ) → closedAt ρ κ Continuation i s ≡ i + before closer s
 
     abbrev Seen1 : List ℕ → Type 0
-    Seen1 s = meetsOf ρ κ one s ≡ contains (c ∷ s)
+    Seen1 s = (i : ℕ) → closedAt ρ κ one (i + 1) s ≡ i + before closer (c ∷ s)
 
     abbrev Seen2 : List ℕ → Type 0
-    Seen2 s = meetsOf ρ κ ContinuationDeclarationInside s ≡ contains (c ∷ c ∷ s)
+    Seen2 s = (i : ℕ) → closedAt ρ κ ContinuationDeclarationInside (i + 2) s ≡ i + before closer (c ∷ c ∷ s)
 
-    seen0-step : (x : ℕ) (xs : List ℕ) → Seen0 xs → Seen1 xs → Seen0 (x ∷ xs)
-    unfolding meetsOf somewhere
-    seen0-step x xs a b = split (eqb x c) (λ h. simp (at-none, h) (simp same at b)) (λ h. simp (at-none, h) a)
+    step0 : (x : ℕ) (xs : List ℕ) → Seen0 xs → Seen1 xs → Seen0 (x ∷ xs)
+    unfolding closedAt before
+    step0 x xs a b i =
+        split (eqb x c) (λ h. rw (eqb-true x c h) (simp (at-none, same, not-yet) (b i ∙ ap (λ t. i + t) (simp same refl))))
+        (λ h. simp (at-none, h) (a (i + 1) ∙ omega arith))
 
-    seen1-step : (x : ℕ) (xs : List ℕ) → Seen0 (x ∷ xs) → Seen2 xs → Seen1 (x ∷ xs)
-    unfolding meetsOf somewhere
-    seen1-step x xs a b = split (eqb x c) (λ h. simp (not-yet, at-one, h, same) (simp same at b)) (λ h. simp (not-yet, at-one, h, same) (simp h at a))
+    step1 : (x : ℕ) (xs : List ℕ) → Seen0 xs → Seen2 xs → Seen1 (x ∷ xs)
+    unfolding closedAt before
+    step1 x xs a b i =
+        let two : i + 1 + 1 ≡ i + 2 = omega arith in
+        split (eqb x c) (λ h. rw (eqb-true x c h) (simp (at-one, same, two) (b i ∙ simp same refl)))
+        (λ h. simp (at-one, at-none, h, same, two) (a (i + 2) ∙ omega arith))
 
-    seen2-step : (x : ℕ) (xs : List ℕ) → Seen0 (x ∷ xs) → Seen2 xs → Seen2 (x ∷ xs)
-    unfolding meetsOf somewhere
-    seen2-step x xs a b =
-        split (eqb x (byte ">")) (λ h. rw (eqb-true x (byte ">") h) (simp (at-two, mark, same) (closed-is κ xs)))
-        (λ j. split (eqb x c) (λ h. simp (at-two, j, h, same) (simp same at b)) (λ h. simp (at-two, j, h, same) (simp h at a)))
+    apart : eqb c (byte ">") ≡ false
+    apart = ne-eqb c (byte ">") (λ e. let z : eqb (byte ">") c ≡ true = eq-eqb (byte ">") c (sym e) in clash (eqb (byte ">") c) z mark)
+
+    -- a third c moves the closer on
+    slide : (xs : List ℕ) → before closer (c ∷ c ∷ c ∷ xs) ≡ suc (before closer (c ∷ c ∷ xs))
+    unfolding before
+    slide xs = simp (apart, same)
+
+    other : (x : ℕ) (xs : List ℕ) → eqb x (byte ">") ≡ false → eqb x c ≡ false → before closer (c ∷ c ∷ x ∷ xs) ≡ 3 + before closer xs
+    unfolding before
+    other x xs j h = simp (j, h, same) (omega arith)
+
+    found : (xs : List ℕ) → before closer (c ∷ c ∷ byte ">" ∷ xs) ≡ 0
+    unfolding before
+    found xs = simp same
+
+    step2 : (x : ℕ) (xs : List ℕ) → Seen0 xs → Seen2 xs → Seen2 (x ∷ xs)
+    step2 x xs a b i =
+        let two : i + 2 + 1 ≡ i + 1 + 2 = omega arith in
+        split (eqb x (byte ">"))
+        (λ h. rw (eqb-true x (byte ">") h) (here ρ κ ContinuationDeclarationInside (i + 2) (byte ">") xs ContinuationClose (sym (at-two (byte ">") ∙ rw mark)) refl ∙ omega (arith, three, found xs)))
+        (λ j. split (eqb x c)
+        (λ h. rw (eqb-true x c h) (on ρ κ ContinuationDeclarationInside (i + 2) c xs ContinuationDeclarationInside (sym (at-two c ∙ rw same)) refl ∙ ap (λ n. closedAt ρ κ ContinuationDeclarationInside n xs) two ∙ b (i + 1) ∙ omega (arith, slide xs)))
+        (λ h. on ρ κ ContinuationDeclarationInside (i + 2) x xs Continuation (sym (at-two x ∙ rw (h, j) (at-none x ∙ rw h))) refl ∙ a (i + 2 + 1) ∙ omega (arith, other x xs j h)))
 
     seen : (s : List ℕ) → Seen0 s × Seen1 s × Seen2 s
-    unfolding meetsOf somewhere
-    seen [] = (refl, simp (not-yet, same), simp same)
-    seen (x ∷ xs) =
-        let ih = seen xs in
-        let a = seen0-step x xs (ih .0) (ih .1) in
-        (a, seen1-step x xs a (ih .2), seen2-step x xs a (ih .2))
+    unfolding closedAt before
+    seen [] = ((λ i. omega arith), (λ i. simp same (omega arith)), (λ i. simp same (omega arith)))
+    seen (x ∷ xs) = let ih = seen xs in (step0 x xs (ih .0) (ih .1), step1 x xs (ih .0) (ih .2), step2 x xs (ih .0) (ih .2))
 
-  comment-is : (s : List ℕ) → meetsOf ρ Comment Continuation s ≡ somewhere (begins (bytes "-->")) s
+  comment-at : (i : ℕ) (s : List ℕ) → closedAt ρ Comment Continuation i s ≡ i + before (begins (bytes "-->")) s
   unfolding continuationOf commentInsideOf declarationInsideOf
-  comment-is s = seen Comment (byte "-") ContinuationCommentInside refl refl (λ x. refl) (λ x. refl) (λ x. refl) refl s .0
+  comment-at i s = seen Comment (byte "-") ContinuationCommentInside refl refl refl (λ x. refl) (λ x. refl) (λ x. refl) refl s .0 i
 
-  cdata-at : ρ .f1 ≡ false → (x : ℕ) → declarationInsideOf ρ Cdata x ≡ pick (eqb x (byte "]")) ContinuationDeclarationInside (pick (eqb x (byte ">")) ContinuationClose (continuationOf Cdata x))
+  -- ---- before `>` in CDATA, by whether F1 is made
+  cdata-inside : (f : Bool) → ρ .f1 ≡ f → (x : ℕ)
+      → declarationInsideOf ρ Cdata x ≡ pick (eqb x (byte "]") && not f) ContinuationDeclarationInside (pick (eqb x (byte ">")) ContinuationClose (continuationOf Cdata x))
   unfolding declarationInsideOf
-  cdata-at f x =
-      ap (λ b. pick (eqb x (byte "]") && not b) ContinuationDeclarationInside (pick (eqb x (byte ">")) ContinuationClose (continuationOf Cdata x))) f
-      ∙ ap (λ b. pick b ContinuationDeclarationInside (pick (eqb x (byte ">")) ContinuationClose (continuationOf Cdata x))) (and-yes (eqb x (byte "]")))
+  cdata-inside f e x = rw e
 
-  cdata-is : ρ .f1 ≡ false → (s : List ℕ) → meetsOf ρ Cdata Continuation s ≡ somewhere (begins (bytes "]]>")) s
+  cdata-at : ρ .f1 ≡ false → (i : ℕ) (s : List ℕ) → closedAt ρ Cdata Continuation i s ≡ i + before (begins (bytes "]]>")) s
   unfolding continuationOf cdataInsideOf
-  cdata-is f s = seen Cdata (byte "]") ContinuationCdataInside refl refl (λ x. refl) (λ x. refl) (cdata-at f) refl s .0
+  cdata-at f i s =
+      seen Cdata (byte "]") ContinuationCdataInside refl refl refl (λ x. refl) (λ x. refl) (λ x. cdata-inside false f x ∙ rw (and-yes (eqb x (byte "]")))) refl s .0 i
 
   -- ---- F1: a maximal, even, nonempty run of `]` before `>`
   module _ (f : ρ .f1 ≡ true) where
-    even-at : (x : ℕ) → declarationInsideOf ρ Cdata x ≡ pick (eqb x (byte ">")) ContinuationClose (continuationOf Cdata x)
-    unfolding declarationInsideOf
-    even-at x =
-        ap (λ b. pick (eqb x (byte "]") && not b) ContinuationDeclarationInside (pick (eqb x (byte ">")) ContinuationClose (continuationOf Cdata x))) f
-        ∙ ap (λ b. pick b ContinuationDeclarationInside (pick (eqb x (byte ">")) ContinuationClose (continuationOf Cdata x))) (and-no (eqb x (byte "]")))
-
     -- by how many `]` stand just before: none, an odd number, an even one
-    abbrev None : List ℕ → Type 0
-    None s = meetsOf ρ Cdata Continuation s ≡ closesEven 0 s
+    abbrev Even0 : List ℕ → Type 0
+    Even0 s = (i : ℕ) → closedAt ρ Cdata Continuation i s ≡ i + beforeEven 0 s
 
-    abbrev Odd : List ℕ → Type 0
-    Odd s = (n : ℕ) → n % 2 ≡ 1 → meetsOf ρ Cdata ContinuationCdataInside s ≡ closesEven n s
+    abbrev Even1 : List ℕ → Type 0
+    Even1 s = (i n : ℕ) → n % 2 ≡ 0 → closedAt ρ Cdata ContinuationCdataInside (i + 1) s ≡ i + beforeEven n (byte "]" ∷ s)
 
-    abbrev Even : List ℕ → Type 0
-    Even s = (n : ℕ) → n % 2 ≡ 0 → (n ≡ 0 → ⊥) → meetsOf ρ Cdata ContinuationDeclarationInside s ≡ closesEven n s
+    abbrev Even2 : List ℕ → Type 0
+    Even2 s = (i n : ℕ) → n % 2 ≡ 0 → closedAt ρ Cdata ContinuationDeclarationInside (i + 2) s ≡ i + beforeEven n (byte "]" ∷ byte "]" ∷ s)
 
-    none-step : (x : ℕ) (xs : List ℕ) → None xs → Odd xs → None (x ∷ xs)
-    unfolding meetsOf continuationOf closesEven
-    none-step x xs a b = split (eqb x (byte "]")) (λ h. simp h (b 1 refl)) (λ h. split (eqb x (byte ">")) (λ j. simp (h, j) a) (λ j. simp (h, j) a))
+    reset0 : (n x : ℕ) (xs : List ℕ) → eqb x (byte "]") ≡ false → beforeEven n (x ∷ xs) ≡ suc (beforeEven 0 xs)
+    unfolding beforeEven
+    reset0 n x xs h = simp h
 
-    odd-step : (x : ℕ) (xs : List ℕ) → None xs → Even xs → Odd (x ∷ xs)
-    unfolding meetsOf cdataInsideOf continuationOf closesEven
-    odd-step x xs a b n o =
-        split (eqb x (byte "]")) (λ h. simp h (b (suc n) (omega arith) (λ z. omega arith)))
-        (λ h.
-        let e : eqb (n % 2) 0 ≡ false = ne-eqb (n % 2) 0 (λ z. omega arith) in
-        let d : eqb n 0 ≡ false = ne-eqb n 0 (λ z. omega arith) in
-        split (eqb x (byte ">")) (λ j. simp (h, j, d, e) a) (λ j. simp (h, j) a))
+    reset1 : (n x : ℕ) (xs : List ℕ) → eqb x (byte "]") ≡ false → beforeEven n (byte "]" ∷ x ∷ xs) ≡ suc (suc (beforeEven 0 xs))
+    unfolding beforeEven
+    reset1 n x xs h = simp h
 
-    even-step : (x : ℕ) (xs : List ℕ) → None xs → Odd xs → Even (x ∷ xs)
-    unfolding meetsOf continuationOf closesEven
-    even-step x xs a b n o z =
-        split (eqb x (byte ">"))
-        (λ j. rw (eqb-true x (byte ">") j, even-at) (simp (ne-eqb n 0 z, eq-eqb (n % 2) 0 o) (closed-is Cdata xs)))
-        (λ j. split (eqb x (byte "]")) (λ h. rw (even-at, j, h) (b (suc n) (omega arith))) (λ h. rw (even-at, j, h) a))
+    reset2 : (n x : ℕ) (xs : List ℕ) → eqb x (byte "]") ≡ false → eqb x (byte ">") ≡ false → beforeEven n (byte "]" ∷ byte "]" ∷ x ∷ xs) ≡ suc (suc (suc (beforeEven 0 xs)))
+    unfolding beforeEven
+    reset2 n x xs h g = simp (h, g)
 
-    even-all : (s : List ℕ) → None s × Odd s × Even s
-    unfolding meetsOf closesEven
-    even-all [] = (refl, (λ n o. refl), (λ n o z. refl))
-    even-all (x ∷ xs) = let ih = even-all xs in (none-step x xs (ih .0) (ih .1), odd-step x xs (ih .0) (ih .2), even-step x xs (ih .0) (ih .1))
+    at-mark : (n : ℕ) (xs : List ℕ) → n % 2 ≡ 0 → beforeEven n (byte "]" ∷ byte "]" ∷ byte ">" ∷ xs) ≡ 0
+    unfolding beforeEven
+    at-mark n xs e = simp (eq-eqb (n % 2) 0 e)
+
+    odd-on : (n : ℕ) (s : List ℕ) → eqb (n % 2) 0 ≡ false → beforeEven n (byte "]" ∷ s) ≡ suc (beforeEven (suc n) s)
+    unfolding beforeEven
+    odd-on n s o = rw (o, and-no (begins (bytes "]]>") (byte "]" ∷ s)))
+
+    two-on : (n : ℕ) (xs : List ℕ) → n % 2 ≡ 0 → beforeEven n (byte "]" ∷ byte "]" ∷ byte "]" ∷ xs) ≡ suc (suc (beforeEven (suc (suc n)) (byte "]" ∷ xs)))
+    unfolding beforeEven
+    two-on n xs e = let o : eqb (suc n % 2) 0 ≡ false = ne-eqb (suc n % 2) 0 (λ z. omega arith) in ap suc (odd-on (suc n) (byte "]" ∷ xs) o)
+
+    inside : (x : ℕ) → declarationInsideOf ρ Cdata x ≡ pick (eqb x (byte ">")) ContinuationClose (continuationOf Cdata x)
+    inside x = cdata-inside true f x ∙ rw (and-no (eqb x (byte "]")))
+
+    abbrev bracket : ℕ
+    bracket = byte "]"
+
+    even : (s : List ℕ) → Even0 s × Even1 s × Even2 s
+    unfolding closedAt continuationOf cdataInsideOf beforeEven
+    even [] = ((λ i. omega arith), (λ i n e. omega arith), (λ i n e. omega arith))
+    even (x ∷ xs) =
+        let ih = even xs in (
+          (λ i. split (eqb x bracket) (λ h. rw (eqb-true x bracket h) (on ρ Cdata Continuation i bracket xs ContinuationCdataInside refl refl ∙ ih .1 i 0 refl))
+              (λ h. on ρ Cdata Continuation i x xs Continuation (rw h) refl ∙ ih .0 (i + 1) ∙ omega (arith, reset0 0 x xs h))),
+          (λ i n e. split (eqb x bracket)
+              (λ h. rw (eqb-true x bracket h) (on ρ Cdata ContinuationCdataInside (i + 1) bracket xs ContinuationDeclarationInside refl refl ∙ ap (λ m. closedAt ρ Cdata ContinuationDeclarationInside m xs) (plus i) ∙ ih .2 i n e))
+              (λ h. on ρ Cdata ContinuationCdataInside (i + 1) x xs Continuation (rw h) refl ∙ ih .0 (i + 1 + 1) ∙ omega (arith, reset1 n x xs h))),
+          (λ i n e. split (eqb x (byte ">"))
+              (λ g. rw (eqb-true x (byte ">") g) (here ρ Cdata ContinuationDeclarationInside (i + 2) (byte ">") xs ContinuationClose (sym (inside (byte ">"))) refl ∙ omega (arith, at-mark n xs e)))
+              (λ g. split (eqb x bracket)
+              (λ h. rw (eqb-true x bracket h) (on ρ Cdata ContinuationDeclarationInside (i + 2) bracket xs ContinuationCdataInside (sym (inside bracket)) refl ∙ ih .1 (i + 2) (suc (suc n)) (omega arith) ∙ omega (arith, two-on n xs e)))
+              (λ h. on ρ Cdata ContinuationDeclarationInside (i + 2) x xs Continuation (sym (inside x ∙ rw (g, h))) refl ∙ ih .0 (i + 2 + 1) ∙ omega (arith, reset2 n x xs h g)))),
+        )
+      where
+        plus : (i : ℕ) → i + 1 + 1 ≡ i + 2
+        plus i = omega arith
 
   -- ---- by kinds
-  pub comment-closes : (s : List ℕ) → meetsOf ρ Comment Continuation s ≡ closes ρ 2 s
-  unfolding closes
-  comment-closes s = comment-is s
+  abbrev pub Finds : Kind → Type 0
+  Finds κ = (s : List ℕ) → closedAt ρ κ Continuation 0 s ≡ beforeCloser ρ (kindNumber κ) s
 
-  pub instruction-closes : (s : List ℕ) → meetsOf ρ Instruction Continuation s ≡ closes ρ 3 s
-  unfolding closes
-  instruction-closes s = instr-both s .0
+  pub finds-comment : Finds Comment
+  unfolding beforeCloser
+  finds-comment s = comment-at 0 s ∙ omega arith
 
-  pub declaration-closes : (s : List ℕ) → meetsOf ρ Declaration Continuation s ≡ closes ρ 4 s
-  unfolding closes
-  declaration-closes s = declaration-is s
+  pub finds-instruction : Finds Instruction
+  unfolding beforeCloser
+  finds-instruction s = instr s .0 0 ∙ omega arith
 
-  pub cdata-closes : (s : List ℕ) → meetsOf ρ Cdata Continuation s ≡ closes ρ 5 s
+  pub finds-declaration : Finds Declaration
+  unfolding beforeCloser
+  finds-declaration s = declaration-at 0 s ∙ omega arith
+
+  pub finds-cdata : Finds Cdata
+  unfolding beforeCloser
+  finds-cdata s =
+      let by : (f : Bool) → ρ .f1 ≡ f → choose f (λ _. beforeEven 0 s) (λ _. before (begins (bytes "]]>")) s) ≡ choose (ρ .f1) (λ _. beforeEven 0 s) (λ _. before (begins (bytes "]]>")) s) = λ f e. rw e in
+      split (ρ .f1) (λ f. omega (arith, even f s .0 0, by true f)) (λ f. omega (arith, cdata-at f 0 s, by false f))
+
+  -- ---- a closer is met exactly where it begins before the end
+  meets-at : (κ : Kind) → 0 < closerLength κ → (s : ContinuationName) (i : ℕ) (xs : List ℕ) → isClose s ≡ false → meetsOf ρ κ s xs ≡ ltb (closedAt ρ κ s i xs) (i + length xs)
+  unfolding meetsOf closedAt
+  meets-at κ z s i [] c = c ∙ sym (le-ltb i (i + 0) (omega arith))
+  meets-at κ z s i (x ∷ xs) c =
+      split (isClose (nextOf ρ κ s x))
+      (λ h. rw (c, h) (met ρ κ (nextOf ρ κ s x) xs h ∙ sym (lt-ltb (i + 1 - closerLength κ) (i + suc (length xs)) (omega arith))))
+      (λ h. let e : i + 1 + length xs ≡ i + suc (length xs) = omega arith in rw (c, h) (meets-at κ z (nextOf ρ κ s x) (i + 1) xs h ∙ ap (ltb (closedAt ρ κ (nextOf ρ κ s x) (i + 1) xs)) e))
+
+  pub meets : (κ : Kind) → 0 < closerLength κ → Finds κ → (s : List ℕ) → meetsOf ρ κ Continuation s ≡ closes ρ (kindNumber κ) s
   unfolding closes
-  cdata-closes s =
-      split (ρ .f1)
-      (λ f. even-all f s .0 ∙ ap (λ b. choose b (λ _. closesEven 0 s) (λ _. somewhere (begins (bytes "]]>")) s)) (sym f))
-      (λ f. cdata-is f s ∙ ap (λ b. choose b (λ _. closesEven 0 s) (λ _. somewhere (begins (bytes "]]>")) s)) (sym f))
+  meets κ z e s = let n : 0 + length s ≡ length s = omega arith in meets-at κ z Continuation 0 s refl ∙ rw (e s, n)

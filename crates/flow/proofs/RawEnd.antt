@@ -18,8 +18,8 @@ use Rattle.lexical.proofs.Cases.{split, clash, or-left, and-no, and-yes, letter
 use Rattle.lexical.proofs.RawNames.{raw-letters, raw-length}
 use Rattle.lexical.proofs.Table.{all-at}
 use Rattle.lexical.proofs.Suffix.{suffix-in, suffix-out, first-in, first-out}
-use Rattle.rules.specs.Search.{begins, somewhere}
-use Rattle.rules.proofs.Past.{somewhere-behind}
+use Rattle.rules.specs.Search.{begins}
+use Rattle.rules.proofs.Past.{firstFrom, first-behind}
 use Rattle.rules.specs.Block.{nameOf, afterName, isRawEnd}
 use Rattle.flow.specs.ContinuationMachine.{rawEndOf}
 
@@ -197,5 +197,5 @@ module _ (line : List ℕ) (i : ℕ) where
 no-tag : (x : ℕ) (xs : List ℕ) → isInner (byte "<") x ≡ true → isRawEnd (x ∷ xs) ≡ false
 no-tag x xs h = rw (or-left (eqb x (byte "<")) (isLineEndingByte x) (not-true _ h))
 
-pub raw-end-behind : (line : List ℕ) (i j : ℕ) → j ≡ i + run (isInner (byte "<")) (drop i line) → somewhere isRawEnd (drop i line) ≡ somewhere isRawEnd (drop j line)
-raw-end-behind = somewhere-behind (isInner (byte "<")) isRawEnd no-tag
+pub raw-end-behind : (line : List ℕ) (i j : ℕ) → j ≡ i + run (isInner (byte "<")) (drop i line) → firstFrom isRawEnd line i ≡ firstFrom isRawEnd line j
+raw-end-behind = first-behind (isInner (byte "<")) isRawEnd no-tag

@@ -29,8 +29,8 @@ abbrev pub openingName : Opening → ℕ
 openingName Shut = unnamed
 openingName (Opens kind name) = name
 
--- found with kind, name, stop and whether a closer was met; none; a refusal with its number
+-- found with kind, name, stop, whether a closer was met and where it begins; none; a refusal with its number
 abbrev pub blockAnswerOf : Block → BlockAnswer
-blockAnswerOf (Found b) = foundBlock (found (kindNumber (b .kind)) (b .name) (b .stop) (b .closed))
+blockAnswerOf (Found b) = foundBlock (found (kindNumber (b .kind)) (b .name) (b .stop) (b .closed) (b .closer))
 blockAnswerOf Missing = noBlock
 blockAnswerOf (Refused refusal) = refusedBlock refusal

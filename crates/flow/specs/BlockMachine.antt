@@ -6,20 +6,15 @@ use lib.Dec.{leb}
 use lib.ListN.{drop}
 use mathlib.Core.Bool.{Bool, _&&_}
 use Rattle.lexical.specs.Line.{isBlank}
-use Rattle.rules.specs.Lines.{Line, flagged}
-use Rattle.rules.specs.Block.{Extent, goesOn}
-use Rattle.rules.specs.Scan.{found, BlockAnswer, foundBlock}
+use Rattle.rules.specs.Lines.{flagged}
+use Rattle.rules.specs.Scan.{BlockAnswer, foundBlock}
 use Rattle.rules.specs.declared.Rules.{Rules}
 use Rattle.rules.proofs.Cut.{behind}
-use Rattle.rules.proofs.LineLaws.{stopFrom}
+use Rattle.rules.proofs.BlockLaws.{goingOn}
 
-abbrev pub wentOn : ℕ → ℕ → ℕ → List Line → Extent → BlockAnswer
-wentOn k name stop ls e = foundBlock (found k name (stopFrom stop (e .lines) ls) (e .closed))
-
--- an open block of kind k, with the place of its name, whose content so far ends at stop; number is the next line's
+-- an open block of kind k, with the place of its name, whose content so far ends at stop with no closer; number is the next line's
 unfoldable pub continuationStartOf : Rules → ℕ → ℕ → List ℕ → List ℕ → ℕ → ℕ → BlockAnswer
-continuationStartOf ρ k name text flags stop number =
-    wentOn k name stop (flagged (drop number flags) (behind (drop stop text))) (goesOn ρ k (flagged (drop number flags) (behind (drop stop text))))
+continuationStartOf ρ k name text flags stop number = foundBlock (goingOn ρ k name stop (flagged (drop number flags) (behind (drop stop text))))
 
 -- a blank line ends kinds 6 and 7
 abbrev pub blankLineBefore : ℕ → List ℕ → Bool

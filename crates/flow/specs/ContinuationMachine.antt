@@ -1,7 +1,7 @@
 -- The machine of the continuation states of html_flow.rt for kinds 2 to 5, and the raw end tag by its letters. It need not be believed: no entry's
 -- contract cites it, only those of single steps and of the runs in crates/reader, and proofs/ContinuationMeans.antt and proofs/RawEnd.antt show that it finds the
 -- closers of the rules.
-use Prim.Native.Nat.{ℕ, zero, suc}
+use Prim.Native.Nat.{ℕ, zero, suc, _+_, _-_}
 use mathlib.Core.Bool.{Bool, true, false, _&&_, _||_, not}
 use mathlib.Core.List.{List, [], _∷_}
 use lib.Dec.{eqb}
@@ -77,6 +77,23 @@ closerStart Cdata = byte "]"
 closerStart Basic = byte "\n"
 closerStart Complete = byte "\n"
 
+-- how many bytes the closer has
+abbrev pub closerLength : Kind → ℕ
+closerLength Raw = 0
+closerLength Comment = 3
+closerLength Instruction = 2
+closerLength Declaration = 1
+closerLength Cdata = 3
+closerLength Basic = 0
+closerLength Complete = 0
+
+-- where the closer begins, i bytes having been read, or the end
+unfoldable pub closedAt : Rules → Kind → ContinuationName → ℕ → List ℕ → ℕ
+closedAt ρ κ s i [] = i
+closedAt ρ κ s i (x ∷ xs) =
+    choose (isClose (nextOf ρ κ s x)) (λ _. i + 1 - closerLength κ) (λ _. closedAt ρ κ (nextOf ρ κ s x) (i + 1) xs)
+
+-- whether there is one
 unfoldable pub meetsOf : Rules → Kind → ContinuationName → List ℕ → Bool
 meetsOf ρ κ s [] = isClose s
 meetsOf ρ κ s (x ∷ xs) = isClose s || meetsOf ρ κ (nextOf ρ κ s x) xs

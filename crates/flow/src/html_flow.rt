@@ -5,10 +5,10 @@ ghost use mathlib.Core.Path.{_≡_};
 ghost use Rattle.flow.specs.CompleteMachine.{endOf, afterOf, closingTagAfterOf, nameBeforeOf, nameAfterOf, nameOf, valueQuotedOf, valueQuotedAfterOf, valueUnquotedOf, valueBeforeOf};
 ghost use Prim.Native.Nat.{_-_, _<_, _≤_};
 ghost use lib.ListN.{length, drop};
-ghost use Rattle.rules.specs.Search.{somewhere};
-ghost use Rattle.rules.specs.Block.{isRawEnd, closes};
+ghost use Rattle.rules.specs.Search.{before as standsBefore};
+ghost use Rattle.rules.specs.Block.{isRawEnd, beforeCloser, closes};
 ghost use Rattle.flow.specs.Answer.{kindNumber};
-ghost use Rattle.flow.specs.ContinuationMachine.{continuationOf, commentInsideOf, cdataInsideOf, stays, declarationInsideOf, nextOf, isClose, isContinuation, closerStart, meetsOf, rawEndOf};
+ghost use Rattle.flow.specs.ContinuationMachine.{continuationOf, commentInsideOf, cdataInsideOf, stays, declarationInsideOf, nextOf, isClose, isContinuation, closerStart, closerLength, closedAt, rawEndOf};
 ghost use Rattle.flow.specs.declared.html_flow.ContinuationName.the-variants.{Continuation, ContinuationClose};
 ghost use Prim.Native.Nat.{_+_};
 ghost use Rattle.lexical.specs.Text.{run, byte};
@@ -426,9 +426,24 @@ fn closer_start(kind: Kind) -> u8
     }
 }
 
-// Whether a line of kinds 2 to 5 has the closer.
-fn meets_closer(rules: Rules, kind: Kind, line: &[u8]) -> bool
-    ensures { λ r. ⌜ r ≡ meetsOf rules kind Continuation (now (line .entry)) ⌝ }
+// How many bytes the closer of kinds 2 to 5 has; 0 for the others.
+fn closer_length(kind: Kind) -> usize
+    ensures { λ r. ⌜ r ≡ closerLength kind ⌝ }
+{
+    match kind {
+        Kind::Comment => 3,
+        Kind::Instruction => 2,
+        Kind::Declaration => 1,
+        Kind::Cdata => 3,
+        Kind::Raw => 0,
+        Kind::Basic => 0,
+        Kind::Complete => 0,
+    }
+}
+
+// Where the closer begins in a line of kinds 2 to 5; where it has none, the line's end.
+fn find_closer(rules: Rules, kind: Kind, line: &[u8]) -> usize
+    ensures { λ r. ⌜ r ≡ closedAt rules kind Continuation 0 (now (line .entry)) ⌝ }
 {
     let mark = closer_start(kind);
     let mut name = ContinuationName::Continuation;
@@ -437,13 +452,13 @@ fn meets_closer(rules: Rules, kind: Kind, line: &[u8]) -> bool
         name = continuation_step(rules, kind, name, line[i]);
         i += 1;
         if is_close(name) {
-            return true;
+            return i - closer_length(kind);
         }
         if is_continuation(name) {
             i = mark_or_line_end(line, i, mark);
         }
     }
-    false
+    i
 }
 
 // In a raw end tag whose name begins at start and has its letters before at; so many more are allowed.
@@ -491,33 +506,40 @@ fn continuation_raw_tag_open(line: &[u8], at: usize) -> bool
     continuation_raw_end_tag(line, name, name, HTML_RAW_SIZE_MAX)
 }
 
-// Whether a line of a raw block has a raw end tag.
-fn meets_raw_end_tag(line: &[u8]) -> bool
-    ensures { λ r. ⌜ r ≡ somewhere isRawEnd (now (line .entry)) ⌝ }
+// Where a raw end tag begins in a line of a raw block; where it has none, the line's end.
+fn find_raw_end_tag(line: &[u8]) -> usize
+    ensures { λ r. ⌜ r ≡ standsBefore isRawEnd (now (line .entry)) ⌝ }
 {
     let mut i = mark_or_line_end(line, 0, b'<');
     while i < line.len() {
         if continuation_raw_tag_open(line, i) {
-            return true;
+            return i;
         }
         i = mark_or_line_end(line, i + 1, b'<');
     }
-    false
+    i
+}
+
+// How many bytes of a line stand before the closer of its block; where it has none, all.
+pub fn before_closer(rules: Rules, kind: Kind, line: &[u8]) -> usize
+    ensures { λ r. ⌜ r ≡ beforeCloser rules (kindNumber kind) (now (line .entry)) ⌝ }
+{
+    match kind {
+        Kind::Raw => find_raw_end_tag(line),
+        Kind::Comment => find_closer(rules, kind, line),
+        Kind::Instruction => find_closer(rules, kind, line),
+        Kind::Declaration => find_closer(rules, kind, line),
+        Kind::Cdata => find_closer(rules, kind, line),
+        Kind::Basic => line.len(),
+        Kind::Complete => line.len(),
+    }
 }
 
 // Whether a line has the closer of its block.
 pub fn closes_line(rules: Rules, kind: Kind, line: &[u8]) -> bool
     ensures { λ r. ⌜ r ≡ closes rules (kindNumber kind) (now (line .entry)) ⌝ }
 {
-    match kind {
-        Kind::Raw => meets_raw_end_tag(line),
-        Kind::Comment => meets_closer(rules, kind, line),
-        Kind::Instruction => meets_closer(rules, kind, line),
-        Kind::Declaration => meets_closer(rules, kind, line),
-        Kind::Cdata => meets_closer(rules, kind, line),
-        Kind::Basic => false,
-        Kind::Complete => false,
-    }
+    before_closer(rules, kind, line) < line.len()
 }
 
 // Past the tag name that begins at an index.
@@ -779,14 +801,21 @@ pub(crate) fn start(rules: Rules, line: &[u8], flag: u8) -> Opening
 //
 //     <!---->
 //            ^
-pub(crate) fn continuation_after(kind: Kind, name: u8, stop: usize, closed: bool) -> Block
-    ensures { λ r. ⌜ blockAnswerOf r ≡ foundBlock (found (kindNumber kind) name stop closed) ⌝ }
+pub(crate) fn continuation_after(
+    kind: Kind,
+    name: u8,
+    stop: usize,
+    closed: bool,
+    closer: usize,
+) -> Block
+    ensures { λ r. ⌜ blockAnswerOf r ≡ foundBlock (found (kindNumber kind) name stop closed closer) ⌝ }
 {
     Block::Found(Found {
         kind,
         name,
         stop,
         closed,
+        closer,
     })
 }
 
@@ -858,17 +887,18 @@ pub(crate) fn continuation_start(
     while stop < bulletin.len() {
         let from = continuation_start_non_lazy(bulletin, stop);
         if from == stop {
-            return continuation_after(kind, name, stop, false);
+            return continuation_after(kind, name, stop, false, stop);
         }
         let content = continuation_before(bulletin, from);
         if ends_before(kind, flag_at(flags, number), content) {
-            return continuation_after(kind, name, stop, false);
+            return continuation_after(kind, name, stop, false, stop);
         }
         stop = from + content.len();
-        if closes_line(rules, kind, content) {
-            return continuation_after(kind, name, stop, true);
+        let at = before_closer(rules, kind, content);
+        if at < content.len() {
+            return continuation_after(kind, name, stop, true, from + at);
         }
         number = next_number(flags, number);
     }
-    continuation_after(kind, name, stop, false)
+    continuation_after(kind, name, stop, false, stop)
 }

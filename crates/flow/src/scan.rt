@@ -10,7 +10,7 @@ ghost use Rattle.rules.specs.Scan.{blockOf, blockScan};
 ghost use Rattle.flow.specs.Answer.{blockAnswerOf};
 use crate::html_flow::Kind;
 use crate::html_flow::Opening;
-use crate::html_flow::closes_line;
+use crate::html_flow::before_closer;
 use crate::html_flow::continuation_after;
 use crate::html_flow::continuation_start;
 use crate::html_flow::start;
@@ -35,12 +35,14 @@ const WRONG_FLAG: u8 = 3;
 
 const WRONG_INDEX: u8 = 4;
 
-// A block that was found: its kind, the place of its name in the list of that kind, its stop, and whether a closer was met.
+// A block that was found: its kind, the place of its name in the list of that kind, its stop, whether a closer was met, and where the closer begins; where none
+// was met, that is the stop.
 pub struct Found {
     pub kind: Kind,
     pub name: u8,
     pub stop: usize,
     pub closed: bool,
+    pub closer: usize,
 }
 
 // The answer of a block scan.
@@ -95,8 +97,9 @@ pub fn block_at(rules: Rules, bulletin: &[u8], flags: &[u8], index: usize, line:
     match start(rules, content, flag_at(flags, line)) {
         Opening::Shut => Block::Missing,
         Opening::Opens { kind, name } => {
-            if closes_line(rules, kind, content) {
-                return continuation_after(kind, name, stop, true);
+            let at = before_closer(rules, kind, content);
+            if at < content.len() {
+                return continuation_after(kind, name, stop, true, index + at);
             }
             continuation_start(
                 rules,

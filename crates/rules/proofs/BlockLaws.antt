@@ -2,7 +2,7 @@
 use mathlib.Core.Path.{_≡_, refl, sym, ap, subst}
 use mathlib.Core.Bool.{Bool, true, false, _&&_}
 use mathlib.Core.List.{List, [], _∷_}
-use Prim.Native.Nat.{ℕ, zero, suc, _+_, _%_, _≤_}
+use Prim.Native.Nat.{ℕ, zero, suc, _+_, _%_, _<_, _≤_}
 use native.Mathlib.Omega.{arith}
 use lib.Dec.{eqb}
 use lib.ListN.{length}
@@ -42,7 +42,17 @@ closer-most ρ k s =
     (λ e. split (ρ .f1) (λ f. rw (a, b, c, d, e, f) (even-most 0 s)) (λ f. rw (a, b, c, d, e, f) (before-most (begins (bytes "]]>")) s)))
     (λ e. rw (a, b, c, d, e) (omega arith))))))
 
-pub no-closer : (ρ : Rules) (k : ℕ) (s : List ℕ) → closes ρ k s ≡ false → beforeCloser ρ k s ≡ length s
+-- at bytes stand before it
+module _ (ρ : Rules) (k : ℕ) (s : List ℕ) (at : ℕ) (e : at ≡ beforeCloser ρ k s) where
+  pub closes-at : at < length s → closes ρ k s ≡ true
+  unfolding closes
+  closes-at h = lt-ltb (beforeCloser ρ k s) (length s) (omega arith)
+
+  pub closes-not : length s ≤ at → closes ρ k s ≡ false
+  unfolding closes
+  closes-not h = le-ltb (beforeCloser ρ k s) (length s) (omega arith)
+
+no-closer : (ρ : Rules) (k : ℕ) (s : List ℕ) → closes ρ k s ≡ false → beforeCloser ρ k s ≡ length s
 unfolding closes
 no-closer ρ k s h = omega (arith, closer-most ρ k s, ltb-false (beforeCloser ρ k s) (length s) h)
 

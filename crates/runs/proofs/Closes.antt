@@ -61,12 +61,12 @@ even-step x xs a b n o =
     let e : eqb (n % 2) 0 ≡ true = eq-eqb (n % 2) 0 o in
     split (eqb x (byte "]"))
     (λ h. let g : eqb x (byte ">") ≡ false = rw (eqb-true x (byte "]") h) refl in
-      split (begins (bytes "]>") xs)
-      (λ t. let u = b (suc n) (omega arith) in simp (h, e, g, t, and-yes) (u ∙ ap (λ c. c || Within (suc n) xs) t ∙ sym (lt-ltb 0 (suc (length xs)) (omega arith))))
-      (λ t. let u = b (suc n) (omega arith) in simp (h, e, g, t, and-yes, more) (u ∙ ap (λ c. c || Within (suc n) xs) t)))
+    split (begins (bytes "]>") xs)
+    (λ t. let u = b (suc n) (omega arith) in simp (h, e, g, t, and-yes) (u ∙ ap (λ c. c || Within (suc n) xs) t ∙ sym (lt-ltb 0 (suc (length xs)) (omega arith))))
+    (λ t. let u = b (suc n) (omega arith) in simp (h, e, g, t, and-yes, more) (u ∙ ap (λ c. c || Within (suc n) xs) t)))
     (λ h. split (eqb x (byte ">"))
-      (λ g. simp (h, e, g, and-yes, more) (ap (λ c. not (eqb n 0) || c) (zero-is xs a)))
-      (λ g. simp (h, e, g, more) (zero-is xs a)))
+    (λ g. simp (h, e, g, and-yes, more) (ap (λ c. not (eqb n 0) || c) (zero-is xs a)))
+    (λ g. simp (h, e, g, more) (zero-is xs a)))
 
 even-all : (s : List ℕ) → Evenly s × Oddly s
 unfolding closesEven beforeEven

@@ -1,90 +1,14 @@
-use mathlib.Core.Path.{_∙_}
 use Rattle.rules.specs.Block.{closes}
-use Rattle.flow.proofs.ContinuationMeans.{comment-closes, instruction-closes, declaration-closes, cdata-closes}
 use borrow.Author.Needs.{needs}
 use Rattle.flow.proofs.html_flow.closes_line.Statement.{statement}
 use Rattle.flow.proofs.html_flow.closes_line.Tie as tie
 
-enum-told : tie.Need-enum-told
-enum-told c = search needs
-
-meets-raw-end-tag-requires : tie.Need-meets-raw-end-tag-requires
-meets-raw-end-tag-requires c κs = search needs
-
-enum-told-2 : tie.Need-enum-told-2
-enum-told-2 c = search needs
-
-meets-closer-requires : tie.Need-meets-closer-requires
-meets-closer-requires c κs = search needs
-
-enum-told-3 : tie.Need-enum-told-3
-enum-told-3 c = search needs
-
-meets-closer-requires-2 : tie.Need-meets-closer-requires-2
-meets-closer-requires-2 c κs = search needs
-
-enum-told-4 : tie.Need-enum-told-4
-enum-told-4 c = search needs
-
-meets-closer-requires-3 : tie.Need-meets-closer-requires-3
-meets-closer-requires-3 c κs = search needs
-
-enum-told-5 : tie.Need-enum-told-5
-enum-told-5 c = search needs
-
-meets-closer-requires-4 : tie.Need-meets-closer-requires-4
-meets-closer-requires-4 c κs = search needs
-
-enum-told-6 : tie.Need-enum-told-6
-enum-told-6 c = search needs
-
-enum-told-7 : tie.Need-enum-told-7
-enum-told-7 c = search needs
+before-closer-requires : tie.Need-before-closer-requires
+before-closer-requires c κs = search needs
 
 returns : tie.Need-returns
 unfolding closes
-returns c = rw (c .before .enum-told .given .1) (c .meets-raw-end-tag .ensures)
-
-returns-2 : tie.Need-returns-2
-returns-2 c = c .meets-closer .ensures ∙ rw (c .before .enum-told2 .given .1) (comment-closes _ _)
-
-returns-3 : tie.Need-returns-3
-returns-3 c = c .meets-closer2 .ensures ∙ rw (c .before .enum-told3 .given .1) (instruction-closes _ _)
-
-returns-4 : tie.Need-returns-4
-returns-4 c = c .meets-closer3 .ensures ∙ rw (c .before .enum-told4 .given .1) (declaration-closes _ _)
-
-returns-5 : tie.Need-returns-5
-returns-5 c = c .meets-closer4 .ensures ∙ rw (c .before .enum-told5 .given .1) (cdata-closes _ _)
-
-returns-6 : tie.Need-returns-6
-unfolding closes
-returns-6 c = rw (c .enum-told6 .given .1)
-
-returns-7 : tie.Need-returns-7
-unfolding closes
-returns-7 c = rw (c .enum-told7 .given .1)
+returns c = rw (c .before-closer .ensures)
 
 pub closes-line-spec : {M : Type 1} → statement M
-closes-line-spec =
-    tie.close
-    (tie.spec
-    enum-told
-    meets-raw-end-tag-requires
-    enum-told-2
-    meets-closer-requires
-    enum-told-3
-    meets-closer-requires-2
-    enum-told-4
-    meets-closer-requires-3
-    enum-told-5
-    meets-closer-requires-4
-    enum-told-6
-    enum-told-7
-    returns
-    returns-2
-    returns-3
-    returns-4
-    returns-5
-    returns-6
-    returns-7)
+closes-line-spec = tie.close (tie.spec before-closer-requires returns)

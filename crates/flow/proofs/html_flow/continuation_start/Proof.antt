@@ -50,8 +50,12 @@ add-stop : tie.Need-add-stop Inv-loop μ-loop
 add-stop c = let a = c .before .before .before .before .before .before .before .before .before .before .args in
     let h = next-within (a .bulletin .now) (c .before .before .before .before .before .before .before .loop .stop) _ _ (c .before .before .before .before .before .before .loop-test .taken) (c .before .before .before .before .before .continuation-start-non-lazy .ensures) (c .before .before .before .continuation-before .ensures) in search (needs, h)
 
-closes-line-requires : tie.Need-closes-line-requires Inv-loop μ-loop
-closes-line-requires c κs = search needs
+before-closer-requires : tie.Need-before-closer-requires Inv-loop μ-loop
+before-closer-requires c κs = search needs
+
+add-continuation-after : tie.Need-add-continuation-after Inv-loop μ-loop
+add-continuation-after c = let l = c .before .before .before .before .before .before .before in
+    let h = next-within (l .before .before .before .before .before .args .bulletin .now) (l .before .before .loop .stop) _ _ (l .before .loop-test .taken) (l .continuation-start-non-lazy .ensures) (c .before .before .before .before .before .continuation-before .ensures) in search (needs, h)
 
 continuation-after-requires-3 : tie.Need-continuation-after-requires-3 Inv-loop μ-loop
 continuation-after-requires-3 c κs = search needs
@@ -60,7 +64,7 @@ returns-3 : tie.Need-returns-3 Inv-loop μ-loop
 returns-3 c = let a = c .before .before .before .before .before .before .before .before .before .before .before .before .before .args in
     c .continuation-after3 .ensures
     ∙ sym (line-closes (a .rules) (kindNumber (a .kind)) (a .name) (a .bulletin .now) (a .flags .now) (c .before .before .before .before .before .before .before .before .before .before .loop .stop) (c .before .before .before .before .before .before .before .before .before .before .loop .number) _ _ _ (c .before .before .before .before .before .before .before .before .continuation-start-non-lazy .ensures) (c .before .before .before .before .before .before .continuation-before .ensures) (c .before .before .before .before .before .flag-at .ensures) (c .before .before .before .before .before .before .before .if1 .left)
-    (sym (c .before .before .before .before .ends-before .ensures) ∙ c .before .before .before .if2 .left) (sym (c .before .before .closes-line .ensures) ∙ c .before .if3 .taken))
+    (sym (c .before .before .before .before .ends-before .ensures) ∙ c .before .before .before .if2 .left) _ (c .before .before .before-closer .ensures) (c .before .if3 .taken))
     ∙ c .before .before .before .before .before .before .before .before .before .before .loop .inv
 
 next-number-requires : tie.Need-next-number-requires Inv-loop μ-loop
@@ -72,7 +76,7 @@ loop-less c = search needs
 loop-again : tie.Need-loop-again Inv-loop μ-loop
 loop-again c = let a = c .before .before .before .before .before .before .before .before .before .before .before .before .before .args in
     sym (line-on (a .rules) (kindNumber (a .kind)) (a .name) (a .bulletin .now) (a .flags .now) (c .before .before .before .before .before .before .before .before .before .before .loop .stop) (c .before .before .before .before .before .before .before .before .before .before .loop .number) _ _ _ (c .before .before .before .before .before .before .before .before .continuation-start-non-lazy .ensures) (c .before .before .before .before .before .before .continuation-before .ensures) (c .before .before .before .before .before .flag-at .ensures) (c .before .before .before .before .before .before .before .if1 .left)
-    (sym (c .before .before .before .before .ends-before .ensures) ∙ c .before .before .before .if2 .left) (sym (c .before .before .closes-line .ensures) ∙ c .before .if3 .left) _ (next-flags (a .flags .now) _ _ (c .next-number .ensures)))
+    (sym (c .before .before .before .before .ends-before .ensures) ∙ c .before .before .before .if2 .left) _ (c .before .before .before-closer .ensures) (c .before .if3 .left) _ (next-flags (a .flags .now) _ _ (c .next-number .ensures)))
     ∙ c .before .before .before .before .before .before .before .before .before .before .loop .inv
 
 continuation-after-requires-4 : tie.Need-continuation-after-requires-4 Inv-loop μ-loop
@@ -97,7 +101,8 @@ continuation-start-spec =
     continuation-after-requires-2
     returns-2
     add-stop
-    closes-line-requires
+    before-closer-requires
+    add-continuation-after
     continuation-after-requires-3
     returns-3
     next-number-requires

@@ -21,7 +21,7 @@ use Rattle.flow.specs.declared.html_flow.Opening.{Opening}
 use Rattle.flow.specs.declared.html_flow.Opening.the-variants.{Opens}
 use Rattle.rules.proofs.LineLaws.{contentFrom}
 use Rattle.flow.proofs.OpenSteps.{no-kind}
-use Rattle.flow.proofs.BlockSteps.{next-flags, no-block, first-closes, first-on, has-number}
+use Rattle.flow.proofs.BlockSteps.{next-flags, stopped, no-block, first-closes, first-on, has-number}
 use borrow.Author.Needs.{needs}
 use Rattle.flow.proofs.scan.block_at.Statement.{statement}
 use Rattle.flow.proofs.scan.block_at.Tie as tie
@@ -69,8 +69,15 @@ enum-told c = search needs
 enum-known-kind : tie.Need-enum-known-kind
 enum-known-kind c = search needs
 
-closes-line-requires : tie.Need-closes-line-requires
-closes-line-requires c κs = search needs
+before-closer-requires : tie.Need-before-closer-requires
+before-closer-requires c κs = search needs
+
+add-continuation-after : tie.Need-add-continuation-after
+add-continuation-after c =
+    let l = c .before .before .before .before .before .before in
+    let a = l .before .before .before .before .before .before .before .before .args in
+    let h = stopped (a .rules) (a .bulletin .now) (a .flags .now) (a .index) (a .line) _ _ _ (l .before .before .line-end .ensures) (l .before .from-indices .ensures) (l .flag-at .ensures) in
+    search (needs, h)
 
 continuation-after-requires : tie.Need-continuation-after-requires
 continuation-after-requires c κs = search needs
@@ -82,7 +89,7 @@ returns-2 c =
     let begun = c .before .before .before .before .before .before .start .ensures in
     c .continuation-after .ensures
     ∙ sym (first-closes (a .rules) (a .bulletin .now) (a .flags .now) (a .index) (a .line) _ _ _ (c .before .before .before .before .before .before .before .before .before .line-end .ensures) (c .before .before .before .before .before .before .before .before .from-indices .ensures) (c .before .before .before .before .before .before .before .flag-at .ensures)
-    (kindNumber (opens .0 .0)) (opens .0 .1 .0) (sym (begun .0) ∙ ap openingNumber (opens .1)) (named _ _ _ _ (opens .1) (begun .1)) (has-number (opens .0 .0)) (sym (c .before .before .closes-line .ensures) ∙ c .before .if2 .taken))
+    (kindNumber (opens .0 .0)) (opens .0 .1 .0) (sym (begun .0) ∙ ap openingNumber (opens .1)) (named _ _ _ _ (opens .1) (begun .1)) (has-number (opens .0 .0)) _ (c .before .before .before-closer .ensures) (c .before .if2 .taken))
 
 next-number-requires : tie.Need-next-number-requires
 next-number-requires c κs = search needs
@@ -102,7 +109,7 @@ returns-4 c =
     let begun = c .before .before .before .before .before .before .before .start .ensures in
     c .continuation-start .ensures
     ∙ sym (first-on (a .rules) (a .bulletin .now) (a .flags .now) (a .index) (a .line) _ _ _ (c .before .before .before .before .before .before .before .before .before .before .line-end .ensures) (c .before .before .before .before .before .before .before .before .before .from-indices .ensures) (c .before .before .before .before .before .before .before .before .flag-at .ensures)
-    (kindNumber (opens .0 .0)) (opens .0 .1 .0) (sym (begun .0) ∙ ap openingNumber (opens .1)) (named _ _ _ _ (opens .1) (begun .1)) (has-number (opens .0 .0)) (sym (c .before .before .before .closes-line .ensures) ∙ c .before .before .if2 .left) _ (next-flags (a .flags .now) _ _ (c .before .next-number .ensures)))
+    (kindNumber (opens .0 .0)) (opens .0 .1 .0) (sym (begun .0) ∙ ap openingNumber (opens .1)) (named _ _ _ _ (opens .1) (begun .1)) (has-number (opens .0 .0)) _ (c .before .before .before .before-closer .ensures) (c .before .before .if2 .left) _ (next-flags (a .flags .now) _ _ (c .before .next-number .ensures)))
 
 pub block-at-spec : {M : Type 1} → statement M
 block-at-spec =
@@ -117,7 +124,8 @@ block-at-spec =
     start-requires
     enum-told
     enum-known-kind
-    closes-line-requires
+    before-closer-requires
+    add-continuation-after
     continuation-after-requires
     returns-2
     next-number-requires
