@@ -1,25 +1,11 @@
 // Cases of the reader and of the lent step.
+use crate::scans::reading;
 use crate::scans::show_inline;
 use crate::show::next;
 use crate::show::yes_or_no;
 use flow::html_flow::Kind;
 use reader::slice::Turn;
 use reader::slice::read_at;
-use rules::Rules;
-
-// All eight changes, or none.
-fn reading(changed: bool) -> Rules {
-    Rules {
-        f1: changed,
-        f2: changed,
-        f3: changed,
-        f4: changed,
-        f5: changed,
-        f6: changed,
-        t1: changed,
-        t2: changed,
-    }
-}
 
 // The kind of a number.
 fn kind(number: u8) -> Kind {

@@ -10,6 +10,8 @@
 //     i    the inline scan; the digit is the carry (scans.rt)
 //     b    the block scan (scans.rt)
 //     N    the block scan: the place of the name (scans.rt)
+//     C    the block scan: where the closer begins (scans.rt)
+//     c    the same with none of the changes; the flags are those from the index's line on (scans.rt)
 //     r    a reader at the index scans, with the digit as carry, and moves on (readers.rt)
 //     p    a reader goes over the text from the index on (readers.rt)
 //     t    the inline run by the lent step, with the digit as carry and all eight changes (readers.rt)
@@ -43,8 +45,10 @@ use crate::hex::number;
 use crate::readers;
 use crate::recorded::both;
 use crate::recorded::long;
+use crate::scans::closer;
 use crate::scans::name;
 use crate::scans::scan;
+use crate::scans::standard_closer;
 use crate::show::end_line;
 use crate::show::unknown;
 use crate::traces::record;
@@ -77,6 +81,8 @@ fn answer(letter: u8, text: &[u8], flags: &[u8], index: usize, room: usize) {
         b'i' => scan(false, text, flags, index),
         b'b' => scan(true, text, flags, index),
         b'N' => name(text, flags, index),
+        b'C' => closer(text, flags, index),
+        b'c' => standard_closer(text, flags, index),
         b'r' => readers::turn(text, index, digit),
         b'p' => readers::pieces(text, index),
         b't' => readers::run(text, index, digit),

@@ -9,9 +9,25 @@ use crate::show::yes_or_no;
 use flow::html_flow::kind_number;
 use flow::scan::Block;
 use flow::scan::Found;
+use flow::scan::block_at;
 use flow::scan::block_scan;
 use html::scan::inline_scan;
 use html::tokenizer::Inline;
+use rules::Rules;
+
+// All eight changes, or none.
+pub fn reading(changed: bool) -> Rules {
+    Rules {
+        f1: changed,
+        f2: changed,
+        f3: changed,
+        f4: changed,
+        f5: changed,
+        f6: changed,
+        t1: changed,
+        t2: changed,
+    }
+}
 
 // `found STOP CARRY`, `none CARRY` or `refused NUMBER CARRY`.
 pub fn show_inline(answer: Inline) {
@@ -31,24 +47,40 @@ pub fn show_inline(answer: Inline) {
     }
 }
 
-// `found KIND STOP yes` where a closer was met, `found KIND STOP no` where none was; of a name: `found KIND NAME`.
-fn show_found(block: Found, named: bool) {
+// What of a found block is shown, behind `found KIND`.
+enum Part {
+    // `STOP yes` where a closer was met, `STOP no` where none was.
+    Stop,
+    // `NAME`.
+    Name,
+    // `CLOSER STOP`.
+    Closer,
+}
+
+fn show_found(block: Found, part: Part) {
     let kind = block.kind;
     found(kind_number(kind) as u64);
-    if named {
-        next(block.name as u64);
-    } else {
-        next(block.stop as u64);
-        space();
-        yes_or_no(block.closed);
+    match part {
+        Part::Stop => {
+            next(block.stop as u64);
+            space();
+            yes_or_no(block.closed);
+        }
+        Part::Name => {
+            next(block.name as u64);
+        }
+        Part::Closer => {
+            next(block.closer as u64);
+            next(block.stop as u64);
+        }
     }
 }
 
 // The same, `none` or `refused NUMBER`.
-fn show_block(answer: Block, named: bool) {
+fn show_block(answer: Block, part: Part) {
     match answer {
         Block::Found(block) => {
-            show_found(block, named);
+            show_found(block, part);
         }
         Block::Missing => {
             none();
@@ -62,7 +94,7 @@ fn show_block(answer: Block, named: bool) {
 // The block scan, or the inline scan, whose carry is its one flag.
 pub fn scan(block: bool, text: &[u8], flags: &[u8], index: usize) {
     if block {
-        show_block(block_scan(text, flags, index), false);
+        show_block(block_scan(text, flags, index), Part::Stop);
     } else {
         show_inline(inline_scan(text, index, byte_at(flags, 0)));
     }
@@ -70,5 +102,15 @@ pub fn scan(block: bool, text: &[u8], flags: &[u8], index: usize) {
 
 // The block scan: the place of the name.
 pub fn name(text: &[u8], flags: &[u8], index: usize) {
-    show_block(block_scan(text, flags, index), true);
+    show_block(block_scan(text, flags, index), Part::Name);
+}
+
+// The block scan: where the closer begins, and the stop.
+pub fn closer(text: &[u8], flags: &[u8], index: usize) {
+    show_block(block_scan(text, flags, index), Part::Closer);
+}
+
+// The same with none of the changes. The flags are those from the index's line on.
+pub fn standard_closer(text: &[u8], flags: &[u8], index: usize) {
+    show_block(block_at(reading(false), text, flags, index, 0), Part::Closer);
 }

@@ -1,5 +1,5 @@
 -- The structs of the C interface, of each answer: 01's numbers and values, and 0 where there is none, but 255 where there is no name (02, Ask 1). A refusal has its
--- number, zero counts and stops, no name, and the carry passed in.
+-- number, zero counts, stops and closers, no name, and the carry passed in.
 use Prim.Native.Nat.{ℕ}
 use mathlib.Core.Bool.{Bool, true, false}
 use Rattle.lexical.specs.Name.{unnamed}
@@ -19,9 +19,9 @@ flag true = 1
 flag false = 0
 
 abbrev pub blockResult : BlockAnswer → BlockResult
-blockResult (foundBlock b) = record { refusal = 0; kind = b .kind; closed = flag (b .closed); name = b .name; stop = b .stop }
-blockResult noBlock = record { refusal = 0; kind = 0; closed = 0; name = unnamed; stop = 0 }
-blockResult (refusedBlock n) = record { refusal = n; kind = 0; closed = 0; name = unnamed; stop = 0 }
+blockResult (foundBlock b) = record { refusal = 0; kind = b .kind; closed = flag (b .closed); name = b .name; stop = b .stop; closer = b .closer }
+blockResult noBlock = record { refusal = 0; kind = 0; closed = 0; name = unnamed; stop = 0; closer = 0 }
+blockResult (refusedBlock n) = record { refusal = n; kind = 0; closed = 0; name = unnamed; stop = 0; closer = 0 }
 
 abbrev pub inlineResult : InlineAnswer → InlineResult
 inlineResult (foundInline stop carry) = record { refusal = 0; found = 1; carry = carry; stop = stop }

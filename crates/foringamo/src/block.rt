@@ -25,6 +25,8 @@ pub struct BlockResult {
     // The place of the name among those of kind 1 or 6. 255: there is none.
     pub name: u8,
     pub stop: usize,
+    // The first byte of the closer, or the stop where none was met. 0: no block.
+    pub closer: usize,
 }
 
 // The block that the line at an index opens.
@@ -41,6 +43,7 @@ pub extern "C" fn foringamo_block_scan(bulletin: &[u8], flags: &[u8], index: usi
                 closed: found.closed as u8,
                 name: found.name,
                 stop: found.stop,
+                closer: found.closer,
             }
         }
         Block::Missing => BlockResult {
@@ -49,6 +52,7 @@ pub extern "C" fn foringamo_block_scan(bulletin: &[u8], flags: &[u8], index: usi
             closed: 0,
             name: NO_NAME,
             stop: 0,
+            closer: 0,
         },
         Block::Refused { refusal } => BlockResult {
             refusal,
@@ -56,6 +60,7 @@ pub extern "C" fn foringamo_block_scan(bulletin: &[u8], flags: &[u8], index: usi
             closed: 0,
             name: NO_NAME,
             stop: 0,
+            closer: 0,
         },
     }
 }

@@ -132,7 +132,7 @@ module _ (ρ : Rules) (text flags : List ℕ) where
     found b o =
         split (eqb k 0) (λ h. let z : noBlock ≡ foundBlock b = simp h at o in clash true refl (sym (ap isFound z)))
         (λ h.
-        let f : foundBlock (blockFound k i l (L E m) x) ≡ foundBlock b = simp h at o in
+        let f : foundBlock (blockFound ρ k i l (L E m) x) ≡ foundBlock b = simp h at o in
         opened h ∙ ap (λ a. pieceOf i a ∷ behindBlock ρ (stopOf a) E (L E m)) f)
 
     -- a block that was found is the next piece

@@ -16,7 +16,7 @@ flag-is true = refl
 flag-is false = refl
 
 found : {a : BlockAnswer} (b : Found) (kind : ℕ) → kind ≡ b .kind → foundBlock b ≡ a
-    → _≡_ {A = BlockResult} (record { refusal = 0; kind = kind; closed = boolByte (b .closed); name = b .name; stop = b .stop }) (blockResult a)
+    → _≡_ {A = BlockResult} (record { refusal = 0; kind = kind; closed = boolByte (b .closed); name = b .name; stop = b .stop; closer = b .closer }) (blockResult a)
 found b kind k e = rw (k, flag-is (b .closed)) (ap blockResult e)
 
 block-scan-requires : tie.Need-block-scan-requires

@@ -1,6 +1,9 @@
-use mathlib.Core.Path.{_∙_}
-use Rattle.rules.specs.Block.{closes}
-use Rattle.flow.proofs.ContinuationMeans.{comment-closes, instruction-closes, declaration-closes, cdata-closes}
+use mathlib.Core.Path.{refl, sym, _∙_}
+use native.Mathlib.Omega.{arith}
+use Rattle.rules.specs.Block.{beforeCloser}
+use Rattle.rules.proofs.BlockLaws.{closes-not}
+use Rattle.flow.specs.declared.html_flow.Kind.the-variants.{Comment, Instruction, Declaration, Cdata}
+use Rattle.flow.proofs.ContinuationMeans.{finds-comment, finds-instruction, finds-declaration, finds-cdata, meets}
 use borrow.Author.Needs.{needs}
 use Rattle.reader.proofs.html_flow.closes_line.Statement.{statement}
 use Rattle.reader.proofs.html_flow.closes_line.Tie as tie
@@ -45,24 +48,24 @@ returns : tie.Need-returns
 returns c = search needs
 
 returns-2 : tie.Need-returns-2
-returns-2 c = c .meets-closer .ensures ∙ rw (c .before .enum-told2 .given .1) (comment-closes _ _)
+returns-2 c = c .meets-closer .ensures ∙ rw (c .before .enum-told2 .given .1) (meets _ Comment (omega arith) (finds-comment _) _)
 
 returns-3 : tie.Need-returns-3
-returns-3 c = c .meets-closer2 .ensures ∙ rw (c .before .enum-told3 .given .1) (instruction-closes _ _)
+returns-3 c = c .meets-closer2 .ensures ∙ rw (c .before .enum-told3 .given .1) (meets _ Instruction (omega arith) (finds-instruction _) _)
 
 returns-4 : tie.Need-returns-4
-returns-4 c = c .meets-closer3 .ensures ∙ rw (c .before .enum-told4 .given .1) (declaration-closes _ _)
+returns-4 c = c .meets-closer3 .ensures ∙ rw (c .before .enum-told4 .given .1) (meets _ Declaration (omega arith) (finds-declaration _) _)
 
 returns-5 : tie.Need-returns-5
-returns-5 c = c .meets-closer4 .ensures ∙ rw (c .before .enum-told5 .given .1) (cdata-closes _ _)
+returns-5 c = c .meets-closer4 .ensures ∙ rw (c .before .enum-told5 .given .1) (meets _ Cdata (omega arith) (finds-cdata _) _)
 
 returns-6 : tie.Need-returns-6
-unfolding closes
-returns-6 c = rw (c .enum-told6 .given .1)
+unfolding beforeCloser
+returns-6 c = let a = c .before .before .before .args in rw (c .enum-told6 .given .1) (sym (closes-not (a .rules) 6 (a .line .now) _ refl (omega arith)))
 
 returns-7 : tie.Need-returns-7
-unfolding closes
-returns-7 c = rw (c .enum-told7 .given .1)
+unfolding beforeCloser
+returns-7 c = let a = c .before .before .before .args in rw (c .enum-told7 .given .1) (sym (closes-not (a .rules) 7 (a .line .now) _ refl (omega arith)))
 
 pub closes-line-spec : {M : Type 1} → statement M
 closes-line-spec =

@@ -41,7 +41,7 @@ loop-again : tie.Need-loop-again Inv-loop μ-loop
 unfolding lineOf
 loop-again c =
     let l = c .before .before .before .before in
-    sym (turn _ _ _ _ _ _ (l .loop-test .taken) (sym (c .before .before .before .is-close .ensures) ∙ c .before .before .if1 .left) (ap (λ (t : Line). t .name) (c .stepped .ensures))) ∙ l .before .loop .inv
+    sym (turn _ _ _ _ _ _ (l .loop-test .taken) (ap (λ (t : Line). t .name) (c .stepped .ensures)) (sym (c .before .before .before .is-close .ensures) ∙ c .before .before .if1 .left)) ∙ l .before .loop .inv
 
 is-close-requires-2 : tie.Need-is-close-requires-2 Inv-loop μ-loop
 is-close-requires-2 c κs = search needs
