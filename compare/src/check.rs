@@ -1,6 +1,7 @@
 //! One comparison of each kind: what the Rust and 01's table say against what
 //! the library says.
 
+use crate::closer;
 use crate::hex::to_hex;
 use crate::library;
 use crate::table;
@@ -168,6 +169,7 @@ pub fn block(bulletin: &[u8], flags: &[u8], index: usize, work: &mut Work) -> Ou
             closed: 0,
             name: library::NO_NAME,
             stop: 0,
+            closer: 0,
         };
         same("the block scan", wanted, given)?;
         refuses(&mut work.out, no_trace(refusal), trace)?;
@@ -184,8 +186,13 @@ pub fn block(bulletin: &[u8], flags: &[u8], index: usize, work: &mut Work) -> Ou
         // The Rust keeps no name.
         name: given.name,
         stop: if found { answer.stop } else { 0 },
+        closer: if found { answer.closer } else { 0 },
     };
     same("the block scan", wanted, given)?;
+    if found {
+        let by_rule = closer::plain(bulletin, answer.kind, index, answer.stop);
+        same("the closer by the plain rule", by_rule, given.closer)?;
+    }
     traced(&answer.trace(), trace, work)?;
     Ok(found)
 }

@@ -4,13 +4,15 @@
 //!     differ [--seed N] [--count N | --long] [--threads N]
 //!
 //! Compared are the answers of both scans with kind, stop, closer and carry,
-//! all trace bytes, each record read back, withholding, and every refusal.
+//! all trace bytes, each record read back, withholding, and every refusal; the
+//! closer also with the plain rule (closer.rs).
 //! Inputs are taken exhaustively over small alphabets (families.rs), the same
 //! in every run, and at random (fragments.rs), N texts from the seed. Where the
 //! two differ, the shortest input found is shown, and the status is 1. The last
 //! line is `N passed, M failed`, one for each kind of comparison.
 
 mod check;
+mod closer;
 mod families;
 mod fragments;
 mod generator;

@@ -12,6 +12,7 @@ pub struct Block {
     pub closed: u8,
     pub name: u8,
     pub stop: usize,
+    pub closer: usize,
 }
 
 #[repr(C)]

@@ -4,7 +4,7 @@
 //! for each:
 //!
 //!     i HEXTEXT INDEX CARRY       found|none STOP CARRY TRACEHEX
-//!     b HEXTEXT HEXFLAGS INDEX    KIND STOP CLOSED TRACEHEX
+//!     b HEXTEXT HEXFLAGS INDEX    KIND STOP CLOSED CLOSER TRACEHEX
 //!
 //! An empty text is an empty field or `-`. A line outside the domain is
 //! answered `bad: ..`; the status is then 1.
@@ -144,7 +144,10 @@ fn answer_block(
     let closed = u8::from(answer.closed);
     let trace = to_hex(&answer.trace());
     Ok((
-        format!("{} {} {closed} {trace}", answer.kind, answer.stop),
+        format!(
+            "{} {} {closed} {} {trace}",
+            answer.kind, answer.stop, answer.closer
+        ),
         answer.events,
     ))
 }

@@ -131,6 +131,36 @@ const BLOCK: [(&str, &[u8], usize, &str); 69] = [
     ("\r\n", &[0, 0], 0, "0 0 0"),
 ];
 
+/// Where the closer begins (02, Ask 2): bulletin, flags, first byte of the closer
+/// of the block at 0, or its stop.
+const CLOSERS: [(&str, &[u8], usize); 24] = [
+    ("<!-->", &[0], 2),
+    ("<!--->", &[0], 3),
+    ("<!---->", &[0], 4),
+    ("<?>", &[0], 1),
+    ("<??>", &[0], 2),
+    ("<!A>>", &[0], 3),
+    ("<!--\n--->x-->", &[0, 0], 6),
+    ("<!--\r\n--->x-->", &[0, 0], 7),
+    ("<!--\r\n-->\r\n", &[0, 0, 0], 6),
+    ("  <!--\n --> -->", &[0, 0], 8),
+    ("<script></style></script>", &[0], 8),
+    ("<pre>\n<</SCRIPT>", &[0, 0], 7),
+    ("<pre></textarea</style>", &[0], 15),
+    ("<![CDATA[]]>", &[0], 9),
+    ("<![CDATA[]]]]>", &[0], 11),
+    ("<![CDATA[]]]>]]>", &[0], 13),
+    ("<![CDATA[]]]\n]]>", &[0, 0], 13),
+    // None.
+    ("<![CDATA[]]]>", &[0], 13),
+    ("<!--\n-->", &[0, 1], 4),
+    ("<!--\r\n-->", &[0, 1], 4),
+    ("<?\n", &[0, 0], 3),
+    ("<pre></pre >", &[0], 12),
+    ("<div></div>", &[0], 11),
+    ("<a>\n-->", &[0, 0], 7),
+];
+
 /// Events of inline scans: text, index, events.
 const INLINE_EVENTS: [(&str, usize, &str); 8] = [
     (
@@ -311,6 +341,11 @@ pub fn all_hold() -> bool {
         let given = format!("{} {} {closed}", answer.kind, answer.stop);
         let what = format!("block {text:?} {flags:?} {index}");
         rows.compare(&what, expected, &given);
+    }
+    for (text, flags, expected) in CLOSERS {
+        let given = block(text.as_bytes(), flags, 0).closer.to_string();
+        let what = format!("closer {text:?} {flags:?}");
+        rows.compare(&what, &expected.to_string(), &given);
     }
     for (text, index, expected) in INLINE_EVENTS {
         let given = words(&inline(text.as_bytes(), index, 0).events);

@@ -38,6 +38,8 @@ pub struct Block {
     pub kind: u8,
     pub stop: usize,
     pub closed: bool,
+    /// First byte of the closer; where none was met, the stop.
+    pub closer: usize,
     pub events: Vec<Ev>,
 }
 
@@ -123,15 +125,39 @@ fn block_with(bulletin: &[u8], flags: &[u8], index: usize, events: Events) -> Bl
     }
     let found = finish(&mut tokenizer, state);
 
+    let kind = tokenizer.tokenize_state.size_b as u8;
+    let stop = if found {
+        back_over_cr(bulletin, tokenizer.point.index)
+    } else {
+        index
+    };
+    let closer_end = back_over_cr(bulletin, tokenizer.tokenize_state.size_c);
     Block {
-        kind: tokenizer.tokenize_state.size_b as u8,
-        stop: if found {
-            back_over_cr(bulletin, tokenizer.point.index)
+        kind,
+        stop,
+        closed: closer_end != 0,
+        closer: if closer_end != 0 {
+            closer_start(&bulletin[..closer_end], kind)
         } else {
-            index
+            stop
         },
-        closed: tokenizer.tokenize_state.size_c != 0,
         events: events(&tokenizer),
+    }
+}
+
+/// First byte of the closer that ends the bytes, by the kind.
+fn closer_start(bytes: &[u8], kind: u8) -> usize {
+    let open = b"</";
+    match kind {
+        1 => bytes
+            .windows(open.len())
+            .rposition(|pair| pair == open)
+            .expect("a raw end tag"),
+        2 => bytes.len() - b"-->".len(),
+        3 => bytes.len() - b"?>".len(),
+        4 => bytes.len() - b">".len(),
+        5 => bytes.len() - b"]]>".len(),
+        _ => unreachable!("a closer of kind {kind}"),
     }
 }
 
@@ -198,8 +224,8 @@ fn attempt(tokenizer: &mut Tokenizer) {
 }
 
 /// Called before each state: keeps the kind before `continuation_after` clears
-/// it, and that `continuation_close` was entered, in two fields (`size_b` and
-/// `size_c`) that neither construct uses.
+/// it, and the index behind the closer, where `continuation_close` is first
+/// entered, in two fields (`size_b` and `size_c`) that neither construct uses.
 #[inline]
 pub(crate) fn watch(tokenizer: &mut Tokenizer, name: StateName) {
     coverage::note(tokenizer, name);
@@ -207,7 +233,9 @@ pub(crate) fn watch(tokenizer: &mut Tokenizer, name: StateName) {
         StateName::HtmlFlowContinuationAfter => {
             tokenizer.tokenize_state.size_b = usize::from(tokenizer.tokenize_state.marker);
         }
-        StateName::HtmlFlowContinuationClose => tokenizer.tokenize_state.size_c = 1,
+        StateName::HtmlFlowContinuationClose if tokenizer.tokenize_state.size_c == 0 => {
+            tokenizer.tokenize_state.size_c = tokenizer.point.index;
+        }
         _ => {}
     }
 }

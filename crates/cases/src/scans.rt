@@ -112,5 +112,8 @@ pub fn closer(text: &[u8], flags: &[u8], index: usize) {
 
 // The same with none of the changes. The flags are those from the index's line on.
 pub fn standard_closer(text: &[u8], flags: &[u8], index: usize) {
-    show_block(block_at(reading(false), text, flags, index, 0), Part::Closer);
+    show_block(
+        block_at(reading(false), text, flags, index, 0),
+        Part::Closer,
+    );
 }
