@@ -48,7 +48,12 @@ int main(void) {
         printf("no block at 17\n");
     } else {
         const char *name = block.kind == 1 ? raw_names[block.name] : block.kind == 6 ? block_names[block.name] : "without a name";
-        printf("a block of kind %d, %s, from 17 to %zu, %s\n", block.kind, name, block.stop, block.closed ? "closed" : "not closed");
+        printf("a block of kind %d, %s, from 17 to %zu, ", block.kind, name, block.stop);
+        if (block.closed) {
+            printf("its closer at %zu\n", block.closer);
+        } else {
+            printf("not closed\n");
+        }
     }
 
     /* The comment begins at 5 of the paragraph, whose text has 16 bytes. */

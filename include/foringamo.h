@@ -41,7 +41,7 @@
 #include <stddef.h>
 #include <stdint.h>
 
-#define FORINGAMO_VERSION "0.2.0"
+#define FORINGAMO_VERSION "0.3.0"
 
 #ifdef __cplusplus
 extern "C" {
@@ -49,14 +49,16 @@ extern "C" {
 
 /*
  * The block that a line opens. Its kinds: 1 raw (pre, script, style, textarea), 2 comment, 3 instruction, 4 declaration, 5 CDATA, 6 basic (a name such as div or
- * table), 7 complete (any other tag that fills its line).
+ * table), 7 complete (any other tag that fills its line). The closers: 1 the end tag of any raw name, 2 `-->`, 3 `?>`, 4 `>`, 5 `]]>`; of `--->` or `]]]]>` only the
+ * last three bytes. A closer may begin within the opening, as in `<!-->`.
  */
 typedef struct {
     uint8_t refusal;
-    uint8_t kind;   /* 1 to 7; 0: none, stop 0 */
+    uint8_t kind;   /* 1 to 7; 0: none, stop and closer 0 */
     uint8_t closed; /* 1: a closer was met, never for kinds 6 and 7; else 0 */
     uint8_t name;   /* kinds 1 and 6: the place of its name in the list below, from 0; 255: any other kind, or none */
     size_t stop;
+    size_t closer;  /* the first byte of the closer, or the stop where none was met */
 } foringamo_block;
 
 /* The name of a block that has none. */

@@ -52,8 +52,8 @@ static int has(const uint8_t *bytes, size_t length) {
     return memcmp(out, bytes, length) == 0 && kept_from(length);
 }
 
-static int is_block(foringamo_block r, int refusal, int kind, int closed, int name, size_t stop) {
-    return r.refusal == refusal && r.kind == kind && r.closed == closed && r.name == name && r.stop == stop;
+static int is_block(foringamo_block r, int refusal, int kind, int closed, int name, size_t stop, size_t closer) {
+    return r.refusal == refusal && r.kind == kind && r.closed == closed && r.name == name && r.stop == stop && r.closer == closer;
 }
 
 static int is_inline(foringamo_inline r, int refusal, int found, int carry, size_t stop) {
@@ -82,12 +82,13 @@ static const uint8_t zeros[16002];
 static const uint8_t wrong[] = {4, 4};
 
 static void layout(void) {
-    CHECK(sizeof(foringamo_block) == 16);
+    CHECK(sizeof(foringamo_block) == 24);
     CHECK(offsetof(foringamo_block, refusal) == 0);
     CHECK(offsetof(foringamo_block, kind) == 1);
     CHECK(offsetof(foringamo_block, closed) == 2);
     CHECK(offsetof(foringamo_block, name) == 3);
     CHECK(offsetof(foringamo_block, stop) == 8);
+    CHECK(offsetof(foringamo_block, closer) == 16);
     CHECK(sizeof(foringamo_inline) == 16);
     CHECK(offsetof(foringamo_inline, refusal) == 0);
     CHECK(offsetof(foringamo_inline, found) == 1);
@@ -178,40 +179,90 @@ static void count_lines(void) {
 }
 
 static void block_scan(void) {
-    CHECK(is_block(foringamo_block_scan(big, 16001, zeros, 1, 0), 1, 0, 0, 255, 0));
-    CHECK(is_block(foringamo_block_scan(big, 16001, wrong, 2, 7), 1, 0, 0, 255, 0));
-    CHECK(is_block(foringamo_block_scan(big, 16000, zeros, 1, 0), 0, 0, 0, 255, 0));
-    CHECK(is_block(foringamo_block_scan(TEXT("<div>"), NOWHERE, 0, 0), 2, 0, 0, 255, 0));
-    CHECK(is_block(foringamo_block_scan(TEXT("<div>"), zeros, 2, 0), 2, 0, 0, 255, 0));
-    CHECK(is_block(foringamo_block_scan(TEXT("<div>"), wrong, 2, 1), 2, 0, 0, 255, 0));
-    CHECK(is_block(foringamo_block_scan(TEXT("<div>"), wrong, 1, 0), 3, 0, 0, 255, 0));
-    CHECK(is_block(foringamo_block_scan(TEXT("<div>"), wrong, 1, 1), 3, 0, 0, 255, 0));
-    CHECK(is_block(foringamo_block_scan(TEXT("<div>"), zeros, 1, 1), 4, 0, 0, 255, 0));
-    CHECK(is_block(foringamo_block_scan(TEXT("<div>"), zeros, 1, 6), 4, 0, 0, 255, 0));
-    CHECK(is_block(foringamo_block_scan(TEXT("<div>"), zeros, 1, SIZE_MAX), 4, 0, 0, 255, 0));
-    CHECK(is_block(foringamo_block_scan(TEXT("a\r\n<div>"), zeros, 2, 2), 4, 0, 0, 255, 0));
+    CHECK(is_block(foringamo_block_scan(big, 16001, zeros, 1, 0), 1, 0, 0, 255, 0, 0));
+    CHECK(is_block(foringamo_block_scan(big, 16001, wrong, 2, 7), 1, 0, 0, 255, 0, 0));
+    CHECK(is_block(foringamo_block_scan(big, 16000, zeros, 1, 0), 0, 0, 0, 255, 0, 0));
+    CHECK(is_block(foringamo_block_scan(TEXT("<div>"), NOWHERE, 0, 0), 2, 0, 0, 255, 0, 0));
+    CHECK(is_block(foringamo_block_scan(TEXT("<div>"), zeros, 2, 0), 2, 0, 0, 255, 0, 0));
+    CHECK(is_block(foringamo_block_scan(TEXT("<div>"), wrong, 2, 1), 2, 0, 0, 255, 0, 0));
+    CHECK(is_block(foringamo_block_scan(TEXT("<div>"), wrong, 1, 0), 3, 0, 0, 255, 0, 0));
+    CHECK(is_block(foringamo_block_scan(TEXT("<div>"), wrong, 1, 1), 3, 0, 0, 255, 0, 0));
+    CHECK(is_block(foringamo_block_scan(TEXT("<div>"), zeros, 1, 1), 4, 0, 0, 255, 0, 0));
+    CHECK(is_block(foringamo_block_scan(TEXT("<div>"), zeros, 1, 6), 4, 0, 0, 255, 0, 0));
+    CHECK(is_block(foringamo_block_scan(TEXT("<div>"), zeros, 1, SIZE_MAX), 4, 0, 0, 255, 0, 0));
+    CHECK(is_block(foringamo_block_scan(TEXT("a\r\n<div>"), zeros, 2, 2), 4, 0, 0, 255, 0, 0));
 
-    CHECK(is_block(foringamo_block_scan(TEXT("<pre>\n</pre>"), zeros, 2, 0), 0, 1, 1, 0, 12));
-    CHECK(is_block(foringamo_block_scan(TEXT("<!-- x"), zeros, 1, 0), 0, 2, 0, 255, 6));
-    CHECK(is_block(foringamo_block_scan(TEXT("<!-- x -->\n"), zeros, 2, 0), 0, 2, 1, 255, 10));
-    CHECK(is_block(foringamo_block_scan(TEXT("<?x?>"), zeros, 1, 0), 0, 3, 1, 255, 5));
-    CHECK(is_block(foringamo_block_scan(TEXT("<!X>"), zeros, 1, 0), 0, 4, 1, 255, 4));
-    CHECK(is_block(foringamo_block_scan(TEXT("<![CDATA[]]>"), zeros, 1, 0), 0, 5, 1, 255, 12));
-    CHECK(is_block(foringamo_block_scan(TEXT("<div>\nx\n\n"), zeros, 4, 0), 0, 6, 0, 15, 7));
-    CHECK(is_block(foringamo_block_scan(TEXT("x\n<a>"), zeros, 2, 2), 0, 7, 0, 255, 5));
-    CHECK(is_block(foringamo_block_scan(TEXT("x"), zeros, 1, 0), 0, 0, 0, 255, 0));
-    CHECK(is_block(foringamo_block_scan(NOWHERE, 0, zeros, 1, 0), 0, 0, 0, 255, 0));
+    CHECK(is_block(foringamo_block_scan(TEXT("<pre>\n</pre>"), zeros, 2, 0), 0, 1, 1, 0, 12, 6));
+    CHECK(is_block(foringamo_block_scan(TEXT("<!-- x"), zeros, 1, 0), 0, 2, 0, 255, 6, 6));
+    CHECK(is_block(foringamo_block_scan(TEXT("<!-- x -->\n"), zeros, 2, 0), 0, 2, 1, 255, 10, 7));
+    CHECK(is_block(foringamo_block_scan(TEXT("<?x?>"), zeros, 1, 0), 0, 3, 1, 255, 5, 3));
+    CHECK(is_block(foringamo_block_scan(TEXT("<!X>"), zeros, 1, 0), 0, 4, 1, 255, 4, 3));
+    CHECK(is_block(foringamo_block_scan(TEXT("<![CDATA[]]>"), zeros, 1, 0), 0, 5, 1, 255, 12, 9));
+    CHECK(is_block(foringamo_block_scan(TEXT("<div>\nx\n\n"), zeros, 4, 0), 0, 6, 0, 15, 7, 7));
+    CHECK(is_block(foringamo_block_scan(TEXT("x\n<a>"), zeros, 2, 2), 0, 7, 0, 255, 5, 5));
+    CHECK(is_block(foringamo_block_scan(TEXT("x"), zeros, 1, 0), 0, 0, 0, 255, 0, 0));
+    CHECK(is_block(foringamo_block_scan(NOWHERE, 0, zeros, 1, 0), 0, 0, 0, 255, 0, 0));
+}
+
+/* A block of kinds 1 to 5 that begins a text. */
+typedef struct {
+    const char *text;
+    size_t lines;
+    int kind;
+    int closed;
+    int name;
+    size_t stop;
+    size_t closer;
+} closer_row;
+
+static const closer_row closer_rows[] = {
+    {"<!-->", 1, 2, 1, 255, 5, 2},
+    {"<!--->", 1, 2, 1, 255, 6, 3},
+    {"<?>", 1, 3, 1, 255, 3, 1},
+    {"<!A>>", 1, 4, 1, 255, 5, 3},
+    {"<!--\n--->x-->", 2, 2, 1, 255, 13, 6},
+    {"<!--\r\n--->x-->\r\ny", 3, 2, 1, 255, 14, 7},
+    {"<script></style></script>", 1, 1, 1, 1, 25, 8},
+    {"<pre>\r\n\r\n</TEXTAREA>", 3, 1, 1, 0, 20, 9},
+    {"<![CDATA[]]]]>", 1, 5, 1, 255, 14, 11},
+    {"<![CDATA[]]]>]]>", 1, 5, 1, 255, 16, 13},
+    {"<![CDATA[]]]>", 1, 5, 0, 255, 13, 13},
+    {"<!--\n->\n", 3, 2, 0, 255, 8, 8},
+    {"<?\r\n>", 2, 3, 0, 255, 5, 5},
+    {"<!A\r\n\r\n", 3, 4, 0, 255, 7, 7},
+    {"<pre></pre >", 1, 1, 0, 0, 12, 12},
+};
+
+/* Each row as it stands, behind three spaces, and behind a line; and where a lazy line keeps the closer out. */
+static void closers(void) {
+    for (size_t i = 0; i < sizeof closer_rows / sizeof *closer_rows; i++) {
+        const closer_row *row = &closer_rows[i];
+        uint8_t text[40];
+        for (int front = 0; front < 3; front++) {
+            int length = snprintf((char *)text, sizeof text, "%s%s", front == 0 ? "" : front == 1 ? "   " : "x\r\n", row->text);
+            size_t moved = front == 0 ? 0 : 3;
+            size_t index = front == 2 ? moved : 0;
+            size_t lines = row->lines + (front == 2);
+            foringamo_block block = foringamo_block_scan(text, (size_t)length, zeros, lines, index);
+            CHECK(is_block(block, 0, row->kind, row->closed, row->name, row->stop + moved, row->closer + moved));
+        }
+    }
+
+    static const uint8_t lazy[] = {0, 1, 0};
+    CHECK(is_block(foringamo_block_scan(TEXT("<!--\n-->"), lazy, 2, 0), 0, 2, 0, 255, 4, 4));
+    CHECK(is_block(foringamo_block_scan(TEXT("<?\r\n?>"), lazy, 2, 0), 0, 3, 0, 255, 2, 2));
+    CHECK(is_block(foringamo_block_scan(TEXT("<?\r\n?>"), lazy + 1, 2, 0), 0, 3, 1, 255, 6, 4));
 }
 
 /* Whether `<name>` has this kind and the name this place, also in capitals. */
 static int is_named(const char *name, int kind, int place) {
     char tag[16];
     int length = snprintf(tag, sizeof tag, "<%s>", name);
-    int small = is_block(foringamo_block_scan((uint8_t *)tag, (size_t)length, zeros, 1, 0), 0, kind, 0, place, (size_t)length);
+    int small = is_block(foringamo_block_scan((uint8_t *)tag, (size_t)length, zeros, 1, 0), 0, kind, 0, place, (size_t)length, (size_t)length);
     for (int i = 0; i < length; i++) {
         tag[i] = (char)toupper((unsigned char)tag[i]);
     }
-    return small && is_block(foringamo_block_scan((uint8_t *)tag, (size_t)length, zeros, 1, 0), 0, kind, 0, place, (size_t)length);
+    return small && is_block(foringamo_block_scan((uint8_t *)tag, (size_t)length, zeros, 1, 0), 0, kind, 0, place, (size_t)length, (size_t)length);
 }
 
 /* The header's names stand in their places. */
@@ -384,6 +435,7 @@ int main(void) {
     layout();
     count_lines();
     block_scan();
+    closers();
     names();
     inline_scan();
     block_trace();

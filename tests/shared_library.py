@@ -7,7 +7,7 @@ from ctypes import c_char_p, c_size_t, c_uint8
 
 
 class Block(ctypes.Structure):
-    _fields_ = [("refusal", c_uint8), ("kind", c_uint8), ("closed", c_uint8), ("name", c_uint8), ("stop", c_size_t)]
+    _fields_ = [("refusal", c_uint8), ("kind", c_uint8), ("closed", c_uint8), ("name", c_uint8), ("stop", c_size_t), ("closer", c_size_t)]
 
 
 class Shown(ctypes.Structure):
@@ -42,7 +42,7 @@ def lines(text):
 def block(bulletin, flags, index):
     """The fields in their order."""
     got = library.foringamo_block_scan(bulletin, len(bulletin), flags, len(flags), index)
-    return got.refusal, got.kind, got.closed, got.name, got.stop
+    return got.refusal, got.kind, got.closed, got.name, got.stop, got.closer
 
 
 def withhold(bulletin, flags, room):
@@ -58,10 +58,10 @@ for text, count in [(b"", 1), (b"a", 1), (b"a\nb", 2), (b"a\r\nb", 2), (b"a\rb",
 bulletin = b"door <!-- x -->9\n<div>\nold\n\nok"
 flags = bytes(lines(bulletin))
 check("01's row", withhold(bulletin, flags, len(bulletin)), (0, 2, b"door 9\n\n\nok", True))
-check("a block of kind 6", block(bulletin, flags, 17), (0, 6, 0, 15, 26))
-check("a block of kind 1", block(b"<Script></style>", b"\0", 0), (0, 1, 1, 1, 16))
-check("no block", block(bulletin, flags, 0), (0, 0, 0, 255, 0))
-check("the index refused", block(bulletin, flags, 1), (4, 0, 0, 255, 0))
+check("a block of kind 6", block(bulletin, flags, 17), (0, 6, 0, 15, 26, 26))
+check("a block of kind 1", block(b"<Script></style>", b"\0", 0), (0, 1, 1, 1, 16, 8))
+check("no block", block(bulletin, flags, 0), (0, 0, 0, 255, 0, 0))
+check("the index refused", block(bulletin, flags, 1), (4, 0, 0, 255, 0, 0))
 check("no room", withhold(bulletin, flags, 10), (7, 0, b"", True))
 check("one flag too many", withhold(bulletin, flags + b"\0", 100), (2, 0, b"", True))
 check("16,001 bytes", withhold(b"a" * 16001, b"\0", 16001), (1, 0, b"", True))

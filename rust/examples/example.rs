@@ -22,13 +22,15 @@ fn run() -> Result<(), Refusal> {
 
     // The line `<div>` begins at 17.
     match foringamo::block_scan(bulletin, &flags, 17)? {
-        Some(block) => println!(
-            "a block of kind {}, {}, from 17 to {}, {}",
-            block.kind.number(),
-            block.tag_name().unwrap_or("without a name"),
-            block.stop,
-            if block.closed { "closed" } else { "not closed" }
-        ),
+        Some(block) => {
+            let name = block.tag_name().unwrap_or("without a name");
+            print!("a block of kind {}, {name}, from 17 to {}, ", block.kind.number(), block.stop);
+            if block.closed {
+                println!("its closer at {}", block.closer);
+            } else {
+                println!("not closed");
+            }
+        }
         None => println!("no block at 17"),
     }
 

@@ -129,6 +129,9 @@ pub struct Block {
     pub stop: usize,
     /// Whether a closer was met: never for kinds 6 and 7.
     pub closed: bool,
+    /// The first byte of its closer: an end tag with a raw name, `-->`, `?>`, `>` or `]]>`, of a longer run of `-` or `]` only the last two. Where none was met, the
+    /// stop.
+    pub closer: usize,
 }
 
 impl Block {
@@ -242,6 +245,7 @@ mod c {
         pub closed: u8,
         pub name: u8,
         pub stop: usize,
+        pub closer: usize,
     }
 
     #[repr(C)]
@@ -339,7 +343,7 @@ const NO_NAME: u8 = 255;
 
 fn block(got: c::Block) -> Option<Block> {
     let name = (got.name != NO_NAME).then_some(got.name);
-    kind(got.kind).map(|kind| Block { kind, name, stop: got.stop, closed: got.closed == 1 })
+    kind(got.kind).map(|kind| Block { kind, name, stop: got.stop, closed: got.closed == 1, closer: got.closer })
 }
 
 // The name of an event by the number of its kind.
@@ -383,7 +387,7 @@ pub fn count_lines(text: &[u8]) -> usize {
 /// use foringamo::{block_scan, Block, Kind, Refusal};
 ///
 /// let bulletin = b"door\n<!-- x\ny -->\nok";
-/// let block = Block { kind: Kind::Comment, name: None, stop: 17, closed: true };
+/// let block = Block { kind: Kind::Comment, name: None, stop: 17, closed: true, closer: 14 };
 /// assert_eq!(block_scan(bulletin, &[0; 4], 5), Ok(Some(block)));
 /// assert_eq!(block_scan(bulletin, &[0; 4], 0), Ok(None));
 /// assert_eq!(block_scan(bulletin, &[0; 4], 1), Err(Refusal::WrongIndex));
@@ -467,9 +471,9 @@ mod tests {
     // As tests/interface.c has it of include/foringamo.h.
     #[test]
     fn layout() {
-        assert_eq!(size_of::<c::Block>(), 16);
+        assert_eq!(size_of::<c::Block>(), 24);
         assert_eq!([offset_of!(c::Block, refusal), offset_of!(c::Block, kind), offset_of!(c::Block, closed)], [0, 1, 2]);
-        assert_eq!([offset_of!(c::Block, name), offset_of!(c::Block, stop)], [3, 8]);
+        assert_eq!([offset_of!(c::Block, name), offset_of!(c::Block, stop), offset_of!(c::Block, closer)], [3, 8, 16]);
         assert_eq!(size_of::<c::Inline>(), 16);
         assert_eq!(
             [offset_of!(c::Inline, refusal), offset_of!(c::Inline, found), offset_of!(c::Inline, carry), offset_of!(c::Inline, stop)],

@@ -71,24 +71,25 @@ fn withheld() {
 
 #[test]
 fn blocks() {
-    for (text, kind, name, stop, closed) in [
-        (&b"<pre>\nx</pre>\ny"[..], Kind::Raw, Some(0), 13, true),
-        (b"<!-- x\ny", Kind::Comment, None, 8, false),
-        (b"<?x?>", Kind::Instruction, None, 5, true),
-        (b"<!x>", Kind::Declaration, None, 4, true),
-        (b"<![CDATA[x]]>", Kind::Cdata, None, 13, true),
-        (b"<div>\n\nx", Kind::Basic, Some(15), 5, false),
-        (b"<a>\nx", Kind::Complete, None, 5, false),
+    for (text, kind, name, stop, closed, closer) in [
+        (&b"<pre>\nx</pre>\ny"[..], Kind::Raw, Some(0), 13, true, 7),
+        (b"<!-- x\ny", Kind::Comment, None, 8, false, 8),
+        (b"<!--\n--->x-->", Kind::Comment, None, 13, true, 6),
+        (b"<?x?>", Kind::Instruction, None, 5, true, 3),
+        (b"<!x>>", Kind::Declaration, None, 5, true, 3),
+        (b"<![CDATA[]]]>]]>", Kind::Cdata, None, 16, true, 13),
+        (b"<div>\n\nx", Kind::Basic, Some(15), 5, false, 5),
+        (b"<a>\nx", Kind::Complete, None, 5, false, 5),
     ] {
         let flags = vec![0; count_lines(text)];
-        assert_eq!(block_scan(text, &flags, 0), Ok(Some(Block { kind, name, stop, closed })), "{text:?}");
+        assert_eq!(block_scan(text, &flags, 0), Ok(Some(Block { kind, name, stop, closed, closer })), "{text:?}");
     }
     assert_eq!(block_scan(b"x", &[0], 0), Ok(None));
     assert_eq!(block_scan(b"x", &[0], 1), Err(Refusal::WrongIndex));
     assert_eq!(block_scan(b"x", &[4], 0), Err(Refusal::WrongFlag));
     assert_eq!(block_scan(b"x", &[0, 0], 0), Err(Refusal::WrongCount));
 
-    let complete = Block { kind: Kind::Complete, name: None, stop: 3, closed: false };
+    let complete = Block { kind: Kind::Complete, name: None, stop: 3, closed: false, closer: 3 };
     assert_eq!(block_scan(b"<a>", &[INTERRUPT], 0), Ok(None));
     assert_eq!(block_scan(b"<a>", &[LAZY], 0), Ok(Some(complete)));
     assert_eq!(block_scan(b"<a>", &[INTERRUPT | LAZY], 0), Ok(Some(complete)));

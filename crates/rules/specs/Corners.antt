@@ -45,6 +45,7 @@ unfoldable pub blocks : List Bool
 blocks =
     -- F1: behind another byte a run of `]` begins anew; an empty one does not close
     blockRow (bytes "<![CDATA[]x]>") (0 ∷ []) (foundBlock (found 5 255 13 false 13))
+    ∷ blockRow (bytes "<![CDATA[]x]]>") (0 ∷ []) (foundBlock (found 5 255 14 true 11))
     ∷ blockRow (bytes "<![CDATA[>") (0 ∷ []) (foundBlock (found 5 255 10 false 10))
     -- a raw end tag has its `>` right behind the name
     ∷ blockRow (bytes "<pre>\n</pre x>") (0 ∷ 0 ∷ []) (foundBlock (found 1 0 14 false 14))

@@ -131,6 +131,14 @@ pub each-applies : (c : Change) → appliesAlone c (place c) ≡ true
 unfolding computing
 each-applies = eight (λ c. appliesAlone c (place c) ≡ true) refl refl refl refl refl refl refl refl
 
+-- 02, Ask 2: the closer is part of the answer, so F1 applies, and alone, also where nothing but the closer differs
+abbrev pub closerPlace : Place
+closerPlace = inBulletin (bytes "<![CDATA[]]]>]]>") (0 ∷ [])
+
+pub closer-applies : appliesAlone F1 closerPlace ≡ true
+unfolding computing
+closer-applies = refl
+
 pub none-there : all noneApplies calm ≡ true
 unfolding computing
 none-there = refl
