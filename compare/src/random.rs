@@ -143,6 +143,11 @@ fn block_shape(text: &[u8], flags: &[u8], index: usize) -> Result<u8, String> {
         return Ok(0);
     }
 
+    demand(
+        answer.closed == (answer.closer < answer.stop),
+        "closer against stop",
+    )?;
+
     // Where a lazy line ends the block, and where a blank or lazy one does.
     let starts = line_starts(text);
     let first = starts.iter().position(|start| *start == index).unwrap();

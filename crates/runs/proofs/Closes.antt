@@ -1,4 +1,4 @@
--- Where a closer begins, and whether there is one: a closer has bytes, so it begins before the end exactly where a line contains it.
+-- Whether a line contains a closer, by a search: a closer has bytes, so it begins before the line's end exactly where the search meets one.
 use mathlib.Core.Path.{_≡_, refl, sym, _∙_, ap}
 use mathlib.Core.Bool.{Bool, true, false, _&&_, _||_, not}
 use mathlib.Core.List.{List, [], _∷_}
@@ -17,12 +17,12 @@ use Rattle.rules.specs.declared.Rules.{Rules}
 more : (a b : ℕ) → ltb (suc a) (suc b) ≡ ltb a b
 more a b = split (ltb a b) (λ t. let l = ltb-true a b t in lt-ltb (suc a) (suc b) (omega arith) ∙ sym t) (λ t. let l = ltb-false a b t in le-ltb (suc a) (suc b) (omega arith) ∙ sym t)
 
-pub before-within : (f : List ℕ → Bool) (s : List ℕ) → ltb (before f s) (length s) ≡ somewhere f s
+before-within : (f : List ℕ → Bool) (s : List ℕ) → ltb (before f s) (length s) ≡ somewhere f s
 unfolding before somewhere
 before-within f [] = refl
 before-within f (x ∷ xs) = split (f (x ∷ xs)) (λ h. rw h (lt-ltb 0 (suc (length xs)) (omega arith))) (λ h. rw h (more (before f xs) (length xs) ∙ before-within f xs))
 
--- F1 by its run: n of it stand just before s
+-- F1 by its run of `]`, of which n stand just before s
 unfoldable pub closesEven : ℕ → List ℕ → Bool
 closesEven n [] = false
 closesEven n (x ∷ xs) =
@@ -33,10 +33,10 @@ abbrev Within : ℕ → List ℕ → Bool
 Within n s = ltb (beforeEven n s) (length s)
 
 -- by how many `]` stand just before: an even number, of which two or more close at `>`, or an odd one
-abbrev pub Evenly : List ℕ → Type 0
+abbrev Evenly : List ℕ → Type 0
 Evenly s = (n : ℕ) → n % 2 ≡ 0 → closesEven n s ≡ ((begins (bytes ">") s && not (eqb n 0)) || Within n s)
 
-abbrev pub Oddly : List ℕ → Type 0
+abbrev Oddly : List ℕ → Type 0
 Oddly s = (n : ℕ) → n % 2 ≡ 1 → closesEven n s ≡ (begins (bytes "]>") s || Within n s)
 
 zero-is : (s : List ℕ) → Evenly s → closesEven 0 s ≡ Within 0 s
@@ -50,7 +50,6 @@ odd-step : (x : ℕ) (xs : List ℕ) → Evenly xs → Oddly (x ∷ xs)
 unfolding closesEven beforeEven
 odd-step x xs a n o =
     let e : eqb (n % 2) 0 ≡ false = ne-eqb (n % 2) 0 (λ z. omega arith) in
-    let p : begins (bytes "]]>") (x ∷ xs) && false ≡ false = and-no (begins (bytes "]]>") (x ∷ xs)) in
     split (eqb x (byte "]"))
     (λ h. simp (h, e, and-no, more) (even-after xs n o a))
     (λ h. simp (h, e, and-no, more) (zero-is xs a))
@@ -62,8 +61,8 @@ even-step x xs a b n o =
     split (eqb x (byte "]"))
     (λ h. let g : eqb x (byte ">") ≡ false = rw (eqb-true x (byte "]") h) refl in
     split (begins (bytes "]>") xs)
-    (λ t. let u = b (suc n) (omega arith) in simp (h, e, g, t, and-yes) (u ∙ ap (λ c. c || Within (suc n) xs) t ∙ sym (lt-ltb 0 (suc (length xs)) (omega arith))))
-    (λ t. let u = b (suc n) (omega arith) in simp (h, e, g, t, and-yes, more) (u ∙ ap (λ c. c || Within (suc n) xs) t)))
+    (λ t. let u = b (suc n) (omega arith) in simp (h, e, g, t) (u ∙ ap (λ c. c || Within (suc n) xs) t ∙ sym (lt-ltb 0 (suc (length xs)) (omega arith))))
+    (λ t. let u = b (suc n) (omega arith) in simp (h, e, g, t, more) (u ∙ ap (λ c. c || Within (suc n) xs) t)))
     (λ h. split (eqb x (byte ">"))
     (λ g. simp (h, e, g, and-yes, more) (ap (λ c. not (eqb n 0) || c) (zero-is xs a)))
     (λ g. simp (h, e, g, more) (zero-is xs a)))
@@ -73,7 +72,7 @@ unfolding closesEven beforeEven
 even-all [] = ((λ n o. refl), (λ n o. refl))
 even-all (x ∷ xs) = let ih = even-all xs in (even-step x xs (ih .0) (ih .1), odd-step x xs (ih .0))
 
-pub even-within : (s : List ℕ) → ltb (beforeEven 0 s) (length s) ≡ closesEven 0 s
+even-within : (s : List ℕ) → ltb (beforeEven 0 s) (length s) ≡ closesEven 0 s
 even-within s = sym (zero-is s (even-all s .0))
 
 -- a line contains the closer, by a search

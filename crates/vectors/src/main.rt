@@ -12,6 +12,10 @@
 // 311 of the name that a block carries (`N`): every name in an open and a closing tag, before `/>` and with a letter more, and the rows of 02, Ask 1; each kind, none,
 // and the refusals 2, 3 and 4. The kinds are 01's, the places as above.
 //
+// 437 of where the closer begins: 353 by the block scan (`C`), the rows of 02, Ask 2, and more ends of blocks of kinds 1 to 5, each as it stands, indented, on a further
+// line, behind CR LF and CR, behind a lazy line, behind a paragraph, and without its last byte; kinds 6 and 7, none, and the refusals 2, 3 and 4. Kind, stop and closer
+// are those of the Rust crate markdown 1.0.0, from compare. 84 with none of the changes (`c`): the first place in the lines that 4.6 of CommonMark 0.31.2 says.
+//
 // 79 of traces: the bytes of written traces (`I`, `B`) are those of the Rust crate markdown 1.0.0, from compare; records read (`e`) and refusals are worked out by hand.
 //
 // 263 of both forms in crates/reader: the texts of `r` and `t` and their answers are those of the inline scan above, but that the run does not make 01's refusals; the
