@@ -1,5 +1,5 @@
 #!/usr/bin/env bash
-# Counts instructions, which are the same however busy the machine is: seven inputs of 16,000 bytes, each 200 times.
+# Counts instructions, which are the same however busy the machine is: eight inputs of 16,000 bytes, each 200 times.
 #
 #     bench/count.sh [ARCHIVE]
 #
@@ -22,7 +22,7 @@ if [ $# -eq 0 ]; then
 fi
 
 mkdir -p "$built" && cc -std=c11 -O2 -Wall -Wextra -Wpedantic -Werror -Iinclude -o "$built/count" bench/count.c "$archive" || exit 1
-for input in comment value attributes prose tags blocks long; do
+for input in comment value attributes prose tags blocks marks long; do
     sum=$(valgrind --tool=callgrind --callgrind-out-file="$built/$input" "$built/count" "$input" 2>"$built/said") || exit 1
     echo "$input: $(sed -n 's/.*Collected : //p' "$built/said") instructions, answers $sum"
 done
