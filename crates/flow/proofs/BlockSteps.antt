@@ -85,7 +85,7 @@ module _ (ρ : Rules) (k name : ℕ) (s flags : List ℕ) (i n : ℕ) where
     pub line-ends : endsBefore k (line f [] content) ≡ true → continuationStartOf ρ k name s flags i n ≡ foundBlock (found k name i false i)
     line-ends e = goes ∙ ap foundBlock (ended ρ k name i next rest e)
 
-    -- at bytes stand before the closer of a line that does not end the block
+    -- the line does not end the block, and `at` is how many of its bytes stand before the closer
     module _ (e : endsBefore k (line f [] content) ≡ false) (at : ℕ) (b : at ≡ beforeCloser ρ k content) where
       pub line-closes : at < length content → continuationStartOf ρ k name s flags i n ≡ foundBlock (found k name to true (from + at))
       line-closes c =
@@ -151,7 +151,7 @@ module _ (ρ : Rules) (s flags : List ℕ) (i n : ℕ) (to f : ℕ) (content : L
     unfolding blockOf
     opened = ap (blockOf ρ i) all-lines ∙ rw (e, z)
 
-    -- at bytes stand before the closer
+    -- `at` is how many of its bytes stand before the closer
     module _ (at : ℕ) (h : at ≡ beforeCloser ρ k content) where
       pub first-closes : at < length content → blockAnswerAt ≡ foundBlock (found k name to true (i + at))
       first-closes c =

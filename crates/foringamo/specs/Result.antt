@@ -3,7 +3,7 @@
 use Prim.Native.Nat.{ℕ}
 use mathlib.Core.Bool.{Bool, true, false}
 use Rattle.lexical.specs.Name.{unnamed}
-use Rattle.rules.specs.Scan.{InlineAnswer, foundInline, noInline, refusedInline, Found, BlockAnswer, foundBlock, noBlock, refusedBlock}
+use Rattle.rules.specs.Scan.{InlineAnswer, foundInline, noInline, refusedInline, BlockAnswer, foundBlock, noBlock, refusedBlock}
 use Rattle.rules.specs.Trace.{Record, eventRecord, lastRecord, refusedRecord}
 use Rattle.rules.specs.Withhold.{Shown, shows, refusedShown}
 use Rattle.trace.specs.Answer.{TraceAnswer, traced, refusedTrace}

@@ -42,7 +42,7 @@ closer-most ρ k s =
     (λ e. split (ρ .f1) (λ f. rw (a, b, c, d, e, f) (even-most 0 s)) (λ f. rw (a, b, c, d, e, f) (before-most (begins (bytes "]]>")) s)))
     (λ e. rw (a, b, c, d, e) (omega arith))))))
 
--- at bytes stand before it
+-- `at` is how many bytes stand before it
 module _ (ρ : Rules) (k : ℕ) (s : List ℕ) (at : ℕ) (e : at ≡ beforeCloser ρ k s) where
   pub closes-at : at < length s → closes ρ k s ≡ true
   unfolding closes

@@ -16,7 +16,7 @@ use Rattle.rules.specs.Lines.{cutLines, flagged, linesOf}
 use Rattle.rules.specs.Block as Block
 use Rattle.rules.specs.Block.{startsRaw, startsBasic, startsComplete, kindAt, kindOf, placeOf, beforeEven, beforeCloser, closes, extentOf, inLast}
 use Rattle.rules.specs.Refusal.{refusal, blankFollows, inlineRefusal, blockRefusal, bulletinRefusal}
-use Rattle.rules.specs.Scan.{InlineAnswer, foundInline, noInline, refusedInline, inlineAt, inlineScan, Found, found, BlockAnswer, foundBlock, noBlock, refusedBlock, blockOf, linesAt, blockAt, blockScan}
+use Rattle.rules.specs.Scan.{InlineAnswer, foundInline, noInline, refusedInline, inlineAt, inlineScan, found, BlockAnswer, foundBlock, noBlock, refusedBlock, blockOf, linesAt, blockAt, blockScan}
 use Rattle.rules.specs.Trace.{field, pointBytes, eventBytes, lastBytes, textLines, textEvents, inlineTrace}
 use Rattle.rules.specs.Withhold.{marks, goesOn, inlinePieces, linePieces, pieces, isWithheld, outside, shown, count}
 

@@ -2,13 +2,13 @@
 use mathlib.Core.Path.{_≡_, refl, sym, _∙_, ap}
 use mathlib.Core.Bool.{Bool, true, false, _&&_, _||_, not}
 use mathlib.Core.List.{List, [], _∷_}
-use Prim.Native.Nat.{ℕ, zero, suc, _+_, _%_, _<_, _≤_}
+use Prim.Native.Nat.{ℕ, suc, _%_}
 use native.Mathlib.Omega.{arith}
 use lib.Dec.{eqb, ltb}
 use lib.ListN.{length}
 use borrow.Author.Tests.{eqb-true, eq-eqb, ne-eqb, lt-ltb, le-ltb, ltb-true, ltb-false}
 use Rattle.lexical.specs.Text.{byte, bytes}
-use Rattle.lexical.proofs.Cases.{split, clash, and-yes, and-no}
+use Rattle.lexical.proofs.Cases.{split, and-yes, and-no}
 use Rattle.rules.specs.Search.{choose, begins, somewhere, before}
 use Rattle.rules.specs.Block.{isRawEnd, beforeEven, beforeCloser, closes}
 use Rattle.rules.specs.declared.Rules.{Rules}
