@@ -109,7 +109,7 @@ beforeCloser ρ k s =
     (λ _. choose (eqb k 5) (λ _. choose (ρ .f1) (λ _. beforeEven 0 s) (λ _. before (begins (bytes "]]>")) s))
     (λ _. length s)))))
 
--- a line contains the closer of kind k
+-- a line contains the closer of kind k: it begins before the end
 unfoldable pub closes : Rules → ℕ → List ℕ → Bool
 closes ρ k s = ltb (beforeCloser ρ k s) (length s)
 
