@@ -13,7 +13,7 @@
 // and the refusals 2, 3 and 4. The kinds are 01's, the places as above.
 //
 // 437 of where the closer begins: 353 by the block scan (`C`), the rows of 02, Ask 2, and more ends of blocks of kinds 1 to 5, each as it stands, indented, on a further
-// line, behind CR LF and CR, behind a lazy line, behind a paragraph, and without its last byte; kinds 6 and 7, none, and the refusals 2, 3 and 4. Kind, stop and closer
+// line, behind CR LF and CR, on a lazy line, behind a paragraph, and without its last byte; kinds 6 and 7, none, and the refusals 2, 3 and 4. Kind, stop and closer
 // are those of the Rust crate markdown 1.0.0, from compare. 84 with none of the changes (`c`): the first place in the lines that 4.6 of CommonMark 0.31.2 says.
 //
 // 79 of traces: the bytes of written traces (`I`, `B`) are those of the Rust crate markdown 1.0.0, from compare; records read (`e`) and refusals are worked out by hand.
