@@ -231,6 +231,9 @@ const TABLE: &str = "<table>\n<tr><td>4</td><td>open</td></tr>\n<tr><td>5</td><t
 
 const ROW: &str = "Row <tr><td>4</td><td class=\"a\">open</td></tr>\n";
 
+// Names that stand late in the list of those that open a block.
+const LATE: &str = "<ul>\n\n<track>\n\n<title>\n\n";
+
 // A text, and where it is scanned.
 struct Scans {
     what: &'static str,
@@ -299,6 +302,8 @@ fn bulletins() -> Vec<(String, OfLength)> {
         ("rich in HTML", RICH),
         ("table of tags, blocks", TABLE),
         ("table of tags, inline", ROW),
+        ("table of tags, late names", LATE),
+        ("`<b` and a line ending", "<b\n"),
     ];
     for (what, unit) in texts {
         all.push((what.to_string(), Box::new(move |length| repeated("", unit, "", length))));

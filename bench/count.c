@@ -91,6 +91,18 @@ int main(int count, char **words)
     } else if (!strcmp(input, "blocks")) {
         repeat("<td>x</td>\n\n");
         call = withholds;
+    } else if (!strcmp(input, "late")) {
+        repeat("<ul>\n\n<track>\n\n<title>\n\n");
+        call = withholds;
+    } else if (!strcmp(input, "lines")) {
+        repeat("<b\n");
+        call = withholds;
+    } else if (!strcmp(input, "table")) {
+        repeat("<table>\n<tr><td>4</td><td>open</td></tr>\n<tr><td>5</td><td>shut</td></tr>\n</table>\n\n");
+        call = withholds;
+    } else if (!strcmp(input, "row")) {
+        repeat("Row <tr><td>4</td><td class=\"a\">open</td></tr>\n");
+        call = withholds;
     } else if (!strcmp(input, "marks")) {
         repeat("<?");
         call = withholds;

@@ -2,32 +2,41 @@
 # How much the time of a call depends on where the code lies: the archive is linked with 0, 16, 32, 48, 64 and 96 bytes in front of it, and each program takes the
 # least time of a call on 16,000 bytes.
 #
-#     bench/place.sh INPUT [ARCHIVE]
+#     bench/place.sh INPUT [ARCHIVE..]
 #
-# INPUT is one of bench/count.sh's. ARCHIVE is target/staticlib/libforingamo.a where none is given, which scripts/archive.sh builds where it must. It needs cc.
+# INPUT is one of bench/count.sh's. ARCHIVE is target/staticlib/libforingamo.a where none is given, which scripts/archive.sh builds where it must. With several, as that
+# of an earlier commit and today's, their programs take turns, and a line has the time of each. It needs cc.
 if [ $# -lt 1 ]; then
-    echo 'bench/place.sh INPUT [ARCHIVE]' >&2
+    echo 'bench/place.sh INPUT [ARCHIVE..]' >&2
     exit 1
 fi
 input=$1
-if [ $# -gt 1 ]; then
-    archive=$(readlink -f -- "$2") || exit 1
-fi
+shift
+archives=()
+for archive in "$@"; do
+    archives+=("$(readlink -e -- "$archive")") || {
+        echo "there is no $archive" >&2
+        exit 1
+    }
+done
 cd "$(dirname "$0")/.." || exit 1
 built=target/place
 command -v cc >/dev/null || {
     echo 'there is no cc: nothing is timed' >&2
     exit 1
 }
-if [ $# -eq 1 ]; then
-    archive=target/staticlib/libforingamo.a
+if [ $# -eq 0 ]; then
+    archives=(target/staticlib/libforingamo.a)
     scripts/archive.sh >&2 || exit 1
 fi
 
 mkdir -p "$built" || exit 1
 for bytes in 0 16 32 48 64 96; do
     printf '.text\n.fill %d, 1, 0x90\n.section .note.GNU-stack,"",@progbits\n' "$bytes" >"$built/bytes.s"
-    cc -std=c11 -O2 -Wall -Wextra -Wpedantic -Werror -Iinclude -o "$built/count" bench/count.c "$built/bytes.s" "$archive" || exit 1
-    took=$("$built/count" "$input" time) || exit 1
-    echo "$bytes bytes: $took microseconds"
+    times=
+    for archive in "${archives[@]}"; do
+        cc -std=c11 -O2 -Wall -Wextra -Wpedantic -Werror -Iinclude -o "$built/count" bench/count.c "$built/bytes.s" "$archive" || exit 1
+        times+=" $("$built/count" "$input" time)" || exit 1
+    done
+    echo "$bytes bytes:$times microseconds"
 done

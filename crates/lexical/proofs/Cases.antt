@@ -47,6 +47,10 @@ pub and-no : (a : Bool) → (a && false) ≡ false
 and-no true = refl
 and-no false = refl
 
+pub or-yes : (a : Bool) → (a || true) ≡ true
+or-yes true = refl
+or-yes false = refl
+
 pub or-no : (a : Bool) → (a || false) ≡ a
 or-no true = refl
 or-no false = refl

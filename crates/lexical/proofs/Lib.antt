@@ -10,5 +10,7 @@ pub mod Bounds
 pub mod Table
 pub mod Same
 pub mod Names
+pub mod Letters
+pub mod Lookup
 pub mod RawNames
 pub mod Prefix

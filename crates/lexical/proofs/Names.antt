@@ -1,5 +1,5 @@
--- The two tables of names. One computed test says of both that their bytes are lower case letters or digits, their names are in order, their offsets rise
--- and cut just the names; the laws turn it into the rule at each entry. Then the lookup: one turn compares a name with the part between two offsets; and what the
+-- The two tables of names. One computed test says of both that their bytes are lower case letters or digits, their names are in order and by letter, their
+-- offsets rise, are few enough and cut just the names; the laws turn it into the rule at each entry. Then the lookup: one turn compares a name with the part between two offsets; and what the
 -- place that it gives says of the name.
 use mathlib.Core.Path.{_≡_, refl, sym, _∙_, ap}
 use mathlib.Core.Bool.{Bool, true, false, _&&_, _||_, not}
@@ -11,7 +11,7 @@ use borrow.Author.Tests.{ltb-true, ltb-false, leb-true, ne-eqb}
 use lib.ListN.{length, getD, take, drop}
 use Rattle.lexical.specs.Byte.{within, isDigit, lower}
 use Rattle.lexical.specs.Text.{byte}
-use Rattle.lexical.specs.Name.{blockNames, rawNames, sameBytes, isMember, isBlockName, isRawName, unnamed, placeFrom, blockPlace, rawPlace, StandsAt, nameBytes, nameOffsets, cut, all, chain, rising}
+use Rattle.lexical.specs.Name.{blockNames, rawNames, sameBytes, isMember, isBlockName, isRawName, unnamed, placeFrom, blockPlace, rawPlace, StandsAt, nameBytes, nameOffsets, cut, all, chain, rising, letterStarts, byLetter, LetterTable}
 use Rattle.lexical.proofs.Cases.{and-left, and-right, split, clash}
 use Rattle.lexical.proofs.Suffix.{suffix-in, suffix-out}
 use Rattle.lexical.proofs.Same.{same-equal}
@@ -52,10 +52,10 @@ cuts names = sameNames (cut (nameBytes names) (nameOffsets 0 names)) names
 unfoldable pub sound : List (List ℕ) → Bool
 sound names =
     all isLowerByte (nameBytes names)
-    && (chain before names && (rising (length (nameBytes names)) (nameOffsets 0 names) && cuts names))
+    && (chain before names && (rising (length (nameBytes names)) (nameOffsets 0 names) && (cuts names && (byLetter names && ltb (length names) unnamed))))
 
 pub tables-sound : (sound blockNames && sound rawNames) ≡ true
-unfolding sound sameNames sameBytes all chain rising cut nameBytes nameOffsets blockNames rawNames
+unfolding sound sameNames sameBytes all chain rising cut byLetter nameBytes nameOffsets blockNames rawNames
 tables-sound = refl
 
 pub block-sound : sound blockNames ≡ true
@@ -97,33 +97,61 @@ module _ (names : List (List ℕ)) (e : sound names ≡ true) where
   abbrev rise : Bool
   rise = rising (length (nameBytes names)) (nameOffsets 0 names)
 
-  rest : (order && (rise && cuts names)) ≡ true
+  abbrev few : Bool
+  few = ltb (length names) unnamed
+
+  behind-lows : (order && (rise && (cuts names && (byLetter names && few)))) ≡ true
   unfolding sound
-  rest = and-right lows (order && (rise && cuts names)) e
+  behind-lows = and-right lows (order && (rise && (cuts names && (byLetter names && few)))) e
+
+  behind-order : (rise && (cuts names && (byLetter names && few))) ≡ true
+  behind-order = and-right order (rise && (cuts names && (byLetter names && few))) behind-lows
+
+  behind-rise : (cuts names && (byLetter names && few)) ≡ true
+  behind-rise = and-right rise (cuts names && (byLetter names && few)) behind-order
+
+  behind-cuts : (byLetter names && few) ≡ true
+  behind-cuts = and-right (cuts names) (byLetter names && few) behind-rise
 
   pub lower-at : (k : ℕ) → k < length (nameBytes names) → isLowerByte (getD (nameBytes names) k 0) ≡ true
   unfolding sound
-  lower-at k h = all-at 0 isLowerByte (nameBytes names) (and-left lows (order && (rise && cuts names)) e) k h
+  lower-at k h = all-at 0 isLowerByte (nameBytes names) (and-left lows (order && (rise && (cuts names && (byLetter names && few)))) e) k h
 
   pub order-at : (k : ℕ) → k + 1 < length names → before (getD names k []) (getD names (k + 1) []) ≡ true
-  order-at k h = chain-at [] before names (and-left order (rise && cuts names) rest) k h
+  order-at k h = chain-at [] before names (and-left order (rise && (cuts names && (byLetter names && few))) behind-lows) k h
 
   pub offsets-rise : rise ≡ true
-  offsets-rise = and-left rise (cuts names) (and-right order (rise && cuts names) rest)
+  offsets-rise = and-left rise (cuts names && (byLetter names && few)) behind-order
 
   pub cut-is : cut (nameBytes names) (nameOffsets 0 names) ≡ names
-  cut-is = same-names (cut (nameBytes names) (nameOffsets 0 names)) names (and-right rise (cuts names) (and-right order (rise && cuts names) rest))
+  cut-is = same-names (cut (nameBytes names) (nameOffsets 0 names)) names (and-left (cuts names) (byLetter names && few) behind-rise)
 
-  -- a table and its offsets as the code has them
-  module _ (table offsets : List ℕ) (t : table ≡ nameBytes names) (o : offsets ≡ nameOffsets 0 names) where
-    pub table-rises : rising (length table) offsets ≡ true
-    table-rises = rw (t, o) offsets-rise
+  pub by-letter : byLetter names ≡ true
+  by-letter = and-left (byLetter names) few behind-cuts
 
-    pub offsets-count : length offsets ≡ suc (length names)
+  pub count-fits : length names < unnamed
+  count-fits = ltb-true (length names) unnamed (and-right (byLetter names) few behind-cuts)
+
+  -- a table as the code has it
+  module _ (table offsets starts : List ℕ) (t : table ≡ nameBytes names) (o : offsets ≡ nameOffsets 0 names) (s : starts ≡ letterStarts names) where
+    names-are : cut table offsets ≡ names
+    names-are = rw (t, o, cut-is)
+
+    offsets-count : length offsets ≡ suc (length names)
     offsets-count = ap length o ∙ offsets-length 0 names
 
-    pub names-are : cut table offsets ≡ names
-    names-are = rw (t, o, cut-is)
+    pub looked-up : LetterTable table offsets starts
+    looked-up =
+        record {
+          rise = rw (t, o) offsets-rise;
+          counted = offsets-count ∙ ap (λ l. suc (length l)) (sym names-are);
+          few = omega (arith, offsets-count, count-fits);
+          order = ap byLetter names-are ∙ by-letter;
+          begin = s ∙ ap letterStarts (sym names-are);
+        }
+
+    pub place-in-list : (n : List ℕ) → placeFrom 0 n (cut table offsets) ≡ placeFrom 0 n names
+    place-in-list n = ap (placeFrom 0 n) names-are
 
 -- what rising offsets say of each
 module _ (n : ℕ) (offsets : List ℕ) (e : rising n offsets ≡ true) (k : ℕ) (h : k + 1 < length offsets) where

@@ -9,8 +9,10 @@ use borrow.Author.Tests.{leb-true}
 use Rattle.lexical.specs.Text.{byte, first}
 use Rattle.lexical.specs.Byte.{within, isLetter, lower}
 use Rattle.lexical.specs.Name.{all, blockNames, rawNames, sameBytes, isMember, isBlockName, isRawName}
-use Rattle.lexical.proofs.Cases.{split, clash, and-left, and-right}
+use Rattle.lexical.proofs.Cases.{split, clash, and-left, and-right, or-yes}
 use Rattle.lexical.proofs.Same.{same-equal}
+use Rattle.lexical.proofs.Names.{sound, raw-sound, block-sound, by-letter}
+use Rattle.lexical.proofs.Letters.{isLower, begin-lower}
 
 -- what every name of a list passes, a member passes
 pub member-all : (f : List ℕ → Bool) (n : List ℕ) (names : List (List ℕ)) → isMember n names ≡ true → all f names ≡ true → f n ≡ true
@@ -50,17 +52,17 @@ raw-length n h =
     rw (length-map n lower) at (leb-true (length (map lower n)) 8 (and-right (all isLetter (map lower n)) (leb (length (map lower n)) 8) (lower-short n h)))
 
 -- names of both lists begin with a letter
-begins-letter : (n : List ℕ) → isLetter (first (map lower n)) ≡ true → isLetter (first n) ≡ true
-begins-letter [] h = h
-begins-letter (x ∷ xs) h = letter-of x h
+begins-letter : (n : List ℕ) → isLower (first (map lower n)) ≡ true → isLetter (first n) ≡ true
+begins-letter [] h = cc
+begins-letter (x ∷ xs) h = letter-of x (rw h (or-yes (within (byte "A") (byte "Z") (lower x))))
 
-member-letter : (n : List ℕ) (names : List (List ℕ)) → all (λ m. isLetter (first m)) names ≡ true → isMember (map lower n) names ≡ true → isLetter (first n) ≡ true
-member-letter n names a h = begins-letter n (member-all (λ m. isLetter (first m)) (map lower n) names h a)
+member-letter : (n : List ℕ) (names : List (List ℕ)) → sound names ≡ true → isMember (map lower n) names ≡ true → isLetter (first n) ≡ true
+member-letter n names s h = begins-letter n (member-all (λ m. isLower (first m)) (map lower n) names h (begin-lower names (by-letter names s)))
 
 pub raw-first : (n : List ℕ) → isRawName n ≡ true → isLetter (first n) ≡ true
-unfolding isRawName all rawNames
-raw-first n h = member-letter n rawNames refl h
+unfolding isRawName
+raw-first n h = member-letter n rawNames raw-sound h
 
 pub block-first : (n : List ℕ) → isBlockName n ≡ true → isLetter (first n) ≡ true
-unfolding isBlockName all blockNames
-block-first n h = member-letter n blockNames refl h
+unfolding isBlockName
+block-first n h = member-letter n blockNames block-sound h

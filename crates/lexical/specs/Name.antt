@@ -1,12 +1,12 @@
 -- Names of tags, from CommonMark 0.31.2, section 4.6, and the CDATA prefix.
-use Prim.Native.Nat.{ℕ, suc, _+_, _-_, _<_}
+use Prim.Native.Nat.{ℕ, zero, suc, _+_, _-_, _<_, _≤_}
 use mathlib.Core.Path.{_≡_}
 use mathlib.Core.Bool.{Bool, true, false, _&&_, _||_}
 use mathlib.Core.List.{List, [], _∷_, _++_, map}
 use lib.Dec.{eqb, leb, ltb}
 use lib.ListN.{length, getD, take, drop}
-use Rattle.lexical.specs.Text.{bytes, pick}
-use Rattle.lexical.specs.Byte.{lower}
+use Rattle.lexical.specs.Text.{byte, bytes, pick, first}
+use Rattle.lexical.specs.Byte.{within, lower}
 
 -- 4.6, start condition 6: the 62 names
 unfoldable pub blockNames : List (List ℕ)
@@ -165,3 +165,48 @@ chain f (x ∷ y ∷ rest) = f x y && chain f (y ∷ rest)
 -- offsets rise strictly, and none is above n
 unfoldable pub rising : ℕ → List ℕ → Bool
 rising n offsets = all (λ o. leb o n) offsets && chain ltb offsets
+
+-- ---- 02, Ask 3: names by their first letter
+-- the names of a list that begin with a byte
+unfoldable pub beginningWith : ℕ → List (List ℕ) → List (List ℕ)
+beginningWith b [] = []
+beginningWith b (x ∷ xs) = pick (eqb (first x) b) (x ∷ beginningWith b xs) (beginningWith b xs)
+
+-- they are exactly what stands from one place of the list up to another
+pub record Exactly (names : List (List ℕ)) (b from to : ℕ) : Type 0 where
+  pub forward : from ≤ to
+  pub inside : to ≤ length names
+  pub same : take (to - from) (drop from names) ≡ beginningWith b names
+
+-- how many names of a list begin with a byte below b
+unfoldable pub namesBelow : ℕ → List (List ℕ) → ℕ
+namesBelow b [] = 0
+namesBelow b (x ∷ xs) = pick (ltb (first x) b) (suc (namesBelow b xs)) (namesBelow b xs)
+
+-- the places where the names of n letters begin, the first letter b, and last where they end
+unfoldable pub startsFrom : ℕ → ℕ → List (List ℕ) → List ℕ
+startsFrom zero b names = namesBelow b names ∷ []
+startsFrom (suc n) b names = namesBelow b names ∷ startsFrom n (suc b) names
+
+-- `a` to `z`
+abbrev pub letters : ℕ
+letters = 26
+
+unfoldable pub letterStarts : List (List ℕ) → List ℕ
+letterStarts names = startsFrom letters (byte "a") names
+
+-- every name begins with a letter, in lower case, and none with an earlier one than the name before it
+unfoldable pub byLetter : List (List ℕ) → Bool
+byLetter names = all (λ x. within (byte "a") (byte "z") (first x)) names && chain (λ x y. leb (first x) (first y)) names
+
+-- the names that begin with a byte stand there in every list by letter whose starts these are
+abbrev pub GoesTo : List ℕ → ℕ → ℕ → ℕ → Type 0
+GoesTo starts b from to = (names : List (List ℕ)) → byLetter names ≡ true → starts ≡ letterStarts names → Exactly names b from to
+
+-- a table in which a name can be looked up by its first letter: the offsets rise, one more than names, each place is a byte, the names are by letter, and the starts are theirs
+pub record LetterTable (table offsets starts : List ℕ) : Type 0 where
+  pub rise : rising (length table) offsets ≡ true
+  pub counted : length offsets ≡ suc (length (cut table offsets))
+  pub few : length offsets ≤ unnamed
+  pub order : byLetter (cut table offsets) ≡ true
+  pub begin : starts ≡ letterStarts (cut table offsets)

@@ -1,12 +1,13 @@
--- The rows of 01 on tokenizer.rs and constant.rs, each a test, proved together by one computed fact.
+-- The rows of 01 on tokenizer.rs and constant.rs, and of 02 on names, each a test, proved together by one computed fact.
 use Prim.Native.Nat.{ℕ, zero, suc}
 use mathlib.Core.Path.{_≡_, refl}
 use mathlib.Core.Bool.{Bool, true, not}
 use mathlib.Core.List.{List, [], _∷_}
 use lib.Dec.{eqb}
-use Rattle.lexical.specs.Text.{bytes, run}
+use lib.ListN.{getD}
+use Rattle.lexical.specs.Text.{byte, bytes, run}
 use Rattle.lexical.specs.Line.{lineEnding, endsLine, lineEndings, lines, isBlank}
-use Rattle.lexical.specs.Name.{all, blockNames, rawNames, sameBytes, isMember, isBlockName, isRawName, placeFrom, blockPlace, rawPlace}
+use Rattle.lexical.specs.Name.{all, chain, blockNames, rawNames, sameBytes, isMember, isBlockName, isRawName, placeFrom, blockPlace, rawPlace, nameBytes, beginningWith, namesBelow, startsFrom, letterStarts, byLetter}
 use Rattle.lexical.specs.Point.{point, tabReadings, tabRead, Action, lastReading, earlierReading, skipped, noByte, actionAt, moved}
 use Rattle.lexical.specs.declared.event.Point.{Point}
 
@@ -27,7 +28,7 @@ abbrev pub readAs : ℕ → List ℕ → List ℕ → Bool
 readAs column s t = sameBytes (reads 5 (point 1 column 0 0) s) t
 
 unfoldable pub rows : List Bool
-unfolding tabReadings tabRead actionAt moved sameBytes isMember blockNames rawNames isBlockName isRawName placeFrom blockPlace rawPlace lineEnding endsLine lineEndings lines isBlank run
+unfolding tabReadings tabRead actionAt moved sameBytes isMember blockNames rawNames isBlockName isRawName placeFrom blockPlace rawPlace nameBytes beginningWith namesBelow startsFrom letterStarts byLetter all chain lineEnding endsLine lineEndings lines isBlank run
 rows =
     -- (P) a tab at column 1 has four readings, at column 4 one
     eqb (tabReadings 1) 4 ∷
@@ -52,6 +53,19 @@ rows =
     eqb (rawPlace (bytes "textarea")) 3 ∷
     eqb (blockPlace (bytes "pre")) 255 ∷
     eqb (rawPlace (bytes "div")) 255 ∷
+    -- 02, Ask 3: the names of a letter, of the last that has any, and of one that has none
+    sameBytes (nameBytes (beginningWith (byte "o") blockNames)) (bytes "oloptgroupoption") ∷
+    sameBytes (nameBytes (beginningWith (byte "u") blockNames)) (bytes "ul") ∷
+    sameBytes (nameBytes (beginningWith (byte "s") rawNames)) (bytes "scriptstyle") ∷
+    sameBytes (nameBytes (beginningWith (byte "q") blockNames)) [] ∷
+    -- where those of `t` begin and end
+    eqb (getD (letterStarts blockNames) 19 0) 52 ∷
+    eqb (getD (letterStarts blockNames) 20 0) 61 ∷
+    -- within a letter any order will do; letters go up, in lower case
+    byLetter (bytes "ab" ∷ bytes "aa" ∷ bytes "c" ∷ []) ∷
+    not (byLetter (bytes "b" ∷ bytes "a" ∷ [])) ∷
+    not (byLetter (bytes "A" ∷ [])) ∷
+    not (byLetter ([] ∷ [])) ∷
     -- one line more than line endings; CR LF is one
     eqb (lines []) 1 ∷
     eqb (lines (bytes "a\r\nb\rc\n")) 4 ∷

@@ -1,20 +1,20 @@
 // constant.rs: names, the CDATA prefix and sizes.
 ghost use mathlib.Core.Path.{_≡_};
 ghost use mathlib.Core.List.{map};
-ghost use Prim.Native.Nat.{_+_, _≤_};
+ghost use Prim.Native.Nat.{_+_, _<_, _≤_};
 ghost use mathlib.Core.Bool.{true};
 ghost use lib.Dec.{ltb};
 ghost use lib.ListN.{length, drop};
 ghost use Rattle.lexical.specs.Text.{limit};
 ghost use Rattle.lexical.specs.Byte.{lower};
-ghost use Rattle.lexical.specs.Name.{sameBytes, unnamed, placeFrom, blockPlace, rawPlace, blockNames, rawNames, nameBytes, nameOffsets, cut, rising, cdataPrefix, cdataLetters};
+ghost use Rattle.lexical.specs.Name.{sameBytes, unnamed, placeFrom, blockPlace, rawPlace, blockNames, rawNames, nameBytes, nameOffsets, cut, rising, letters, letterStarts, GoesTo, LetterTable, cdataPrefix, cdataLetters};
 use crate::byte::to_ascii_lowercase;
 
 // The names that open an HTML block of kind 6, end to end, and where each begins; the last offset is where the last name ends.
 const HTML_BLOCK_NAMES: [u8; 294] =
     *b"addressarticleasidebasebasefontblockquotebodycaptioncentercolcolgroupdddetailsdialogdirdivdldtfieldsetfigcaptionfigurefooterformframeframeseth1h2h3h4h5h6headheaderhrhtmliframelegendlilinkmainmenumenuitemnavnoframesoloptgroupoptionpparamsearchsectionsummarytabletbodytdtfootththeadtitletrtrackul";
 
-const HTML_BLOCK_OFFSETS: [usize; 63] = [
+const HTML_BLOCK_OFFSETS: [u16; 63] = [
     0,
     7,
     14,
@@ -83,11 +83,73 @@ const HTML_BLOCK_OFFSETS: [usize; 63] = [
 // The names that open an HTML block of kind 1, in the same form.
 const HTML_RAW_NAMES: [u8; 22] = *b"prescriptstyletextarea";
 
-const HTML_RAW_OFFSETS: [usize; 5] = [0, 3, 9, 14, 22];
+const HTML_RAW_OFFSETS: [u16; 5] = [0, 3, 9, 14, 22];
 
-// The place of the first name of a list, and that of what is no name.
-const FIRST_PLACE: u8 = 0;
+// The places where the names of each letter begin in either list, from `a` on, and last where those of `z` end.
+const HTML_BLOCK_STARTS: [u8; 27] = [
+    0,
+    3,
+    7,
+    11,
+    18,
+    18,
+    25,
+    25,
+    35,
+    36,
+    36,
+    36,
+    39,
+    42,
+    44,
+    47,
+    49,
+    49,
+    49,
+    52,
+    61,
+    62,
+    62,
+    62,
+    62,
+    62,
+    62,
+];
 
+const HTML_RAW_STARTS: [u8; 27] = [
+    0,
+    0,
+    0,
+    0,
+    0,
+    0,
+    0,
+    0,
+    0,
+    0,
+    0,
+    0,
+    0,
+    0,
+    0,
+    0,
+    1,
+    1,
+    1,
+    3,
+    4,
+    4,
+    4,
+    4,
+    4,
+    4,
+    4,
+];
+
+// No places.
+const NO_PLACES: Places = Places { from: 0, to: 0 };
+
+// The place of what is no name.
 pub const NO_NAME: u8 = 255;
 
 // The length of the longest raw name.
@@ -124,15 +186,15 @@ fn same_lower(name: &[u8], part: &[u8]) -> bool
 
 // The place of the name, in lower case, among those that the offsets cut from the table: the names of a whole list, or of a part of it whose first name has the
 // place that is passed in.
-fn place_of(name: &[u8], table: &[u8], offsets: &[usize], first: u8) -> u8
+fn place_of(name: &[u8], table: &[u8], offsets: &[u16], first: u8) -> u8
     requires { ⌜ rising (length (now table)) (now offsets) ≡ true ⌝ }
     requires { ⌜ first + length (now offsets) ≤ unnamed ⌝ }
     ensures { λ r. ⌜ r ≡ placeFrom first (map lower (now (name .entry))) (cut (now (table .entry)) (now (offsets .entry))) ⌝ }
 {
     let mut k = 0;
     while k + 1 < offsets.len() {
-        let start = offsets[k];
-        let end = offsets[k + 1];
+        let start = offsets[k] as usize;
+        let end = offsets[k + 1] as usize;
         if same_lower(name, &table[start..end]) {
             return first + k as u8;
         }
@@ -141,16 +203,58 @@ fn place_of(name: &[u8], table: &[u8], offsets: &[usize], first: u8) -> u8
     NO_NAME
 }
 
+// Places of a list, from one up to another.
+struct Places {
+    from: u8,
+    to: u8,
+}
+
+// The places of the names that begin with a byte, in either case.
+fn places_of(first: u8, starts: &[u8]) -> Places
+    requires { ⌜ letters < length (now starts) ⌝ }
+    ensures { λ r. ⌜ GoesTo (now (starts .entry)) (lower first) (r .from) (r .to) ⌝ }
+{
+    let lower = to_ascii_lowercase(first);
+    if (b'a' <= lower) & (lower <= b'z') {
+        let letter = (lower - b'a') as usize;
+        return Places {
+            from: starts[letter],
+            to: starts[letter + 1],
+        };
+    }
+    NO_PLACES
+}
+
+// The place of the name, in lower case, in a list: it is held only against the names that begin as it does.
+fn lookup(name: &[u8], table: &[u8], offsets: &[u16], starts: &[u8]) -> u8
+    requires { ⌜ LetterTable (now table) (now offsets) (now starts) ⌝ }
+    ensures { λ r. ⌜ r ≡ placeFrom 0 (map lower (now (name .entry))) (cut (now (table .entry)) (now (offsets .entry))) ⌝ }
+{
+    if name.len() == 0 {
+        return NO_NAME;
+    }
+    let places = places_of(name[0], starts);
+    let from = places.from as usize;
+    let to = places.to as usize;
+    place_of(name, table, &offsets[from..to + 1], places.from)
+}
+
 fn block_names() -> [u8; 294]
     ensures { λ r. ⌜ r ≡ nameBytes blockNames ⌝ }
 {
     HTML_BLOCK_NAMES
 }
 
-fn block_offsets() -> [usize; 63]
+fn block_offsets() -> [u16; 63]
     ensures { λ r. ⌜ r ≡ nameOffsets 0 blockNames ⌝ }
 {
     HTML_BLOCK_OFFSETS
+}
+
+fn block_starts() -> [u8; 27]
+    ensures { λ r. ⌜ r ≡ letterStarts blockNames ⌝ }
+{
+    HTML_BLOCK_STARTS
 }
 
 fn raw_names() -> [u8; 22]
@@ -159,10 +263,16 @@ fn raw_names() -> [u8; 22]
     HTML_RAW_NAMES
 }
 
-fn raw_offsets() -> [usize; 5]
+fn raw_offsets() -> [u16; 5]
     ensures { λ r. ⌜ r ≡ nameOffsets 0 rawNames ⌝ }
 {
     HTML_RAW_OFFSETS
+}
+
+fn raw_starts() -> [u8; 27]
+    ensures { λ r. ⌜ r ≡ letterStarts rawNames ⌝ }
+{
+    HTML_RAW_STARTS
 }
 
 // The place of the bytes among the 62 block names, letter case ignored.
@@ -171,7 +281,8 @@ pub fn block_place(name: &[u8]) -> u8
 {
     let table = block_names();
     let offsets = block_offsets();
-    place_of(name, &table, &offsets, FIRST_PLACE)
+    let starts = block_starts();
+    lookup(name, &table, &offsets, &starts)
 }
 
 // The place of the bytes among the 4 raw names, letter case ignored.
@@ -180,7 +291,8 @@ pub fn raw_place(name: &[u8]) -> u8
 {
     let table = raw_names();
     let offsets = raw_offsets();
-    place_of(name, &table, &offsets, FIRST_PLACE)
+    let starts = raw_starts();
+    lookup(name, &table, &offsets, &starts)
 }
 
 fn cdata_prefix() -> [u8; 6]

@@ -2,7 +2,7 @@
 -- stands as far behind j₁ in the one as behind j₂ in the other, where they meet again. Where a piece holds all from p to j₁, the bytes outside the pieces are
 -- the same: before p and behind j₁ the same indices are withheld, and between them all.
 use mathlib.Core.Path.{_≡_, refl, sym, _∙_, ap}
-use mathlib.Core.Bool.{Bool, true, false, _&&_, _||_}
+use mathlib.Core.Bool.{true, _&&_}
 use mathlib.Core.List.{List, [], _∷_, _++_}
 use Prim.Native.Nat.{ℕ, suc, _+_, _<_, _≤_}
 use native.Mathlib.Nat.{add-zero, add-suc}
@@ -10,14 +10,9 @@ use native.Mathlib.Omega.{arith}
 use lib.Dec.{leb, ltb}
 use lib.ListN.{length}
 use borrow.Author.Tests.{le-leb, lt-leb, lt-ltb, le-ltb, leb-true, leb-false, ltb-true, ltb-false}
-use Rattle.lexical.proofs.Cases.{split, and-left, and-right}
+use Rattle.lexical.proofs.Cases.{split, and-left, and-right, or-yes}
 use Rattle.rules.specs.Withhold.{Which, Piece, piece, holds, isWithheld, outside}
 use Rattle.rules.specs.Private.{any, spans, encloses}
-
--- a test or one that holds
-pub or-true : (x : Bool) → (x || true) ≡ true
-or-true true = refl
-or-true false = refl
 
 -- an index of the one text, and the same place of the other
 pub data At (p j₁ j₂ : ℕ) : ℕ → ℕ → Type 0 where
@@ -93,7 +88,7 @@ spanned p j i (q ∷ ps) a b h =
     let u = leb-true (q .start) p (and-left (leb (q .start) p) (leb j (q .stop)) t) in
     let v = leb-true j (q .stop) (and-right (leb (q .start) p) (leb j (q .stop)) t) in
     rw (le-leb (q .start) i (omega arith), lt-ltb i (q .stop) (omega arith)))
-    (λ t. rw (spanned p j i ps a b (rw t at h)) (or-true (holds i q)))
+    (λ t. rw (spanned p j i ps a b (rw t at h)) (or-yes (holds i q)))
 
 -- ---- the bytes outside
 outside-held : (p j : ℕ) (ps : List Piece) → any (spans p j) ps ≡ true → (m s : List ℕ) (i : ℕ) → p ≤ i → i + length m ≡ j → outside i ps (m ++ s) ≡ outside j ps s

@@ -9,12 +9,12 @@ use lib.Dec.{leb, ltb}
 use lib.ListN.{length, length-append}
 use borrow.Author.Tests.{le-leb, leb-true, leb-false, ltb-true, ltb-false}
 use Rattle.lexical.specs.Text.{byte}
-use Rattle.lexical.proofs.Cases.{split, and-left, and-right}
+use Rattle.lexical.proofs.Cases.{split, and-left, and-right, or-yes}
 use Rattle.rules.specs.Lines.{linesOf}
 use Rattle.rules.specs.Withhold.{Piece, marks, linePieces, pieces, shown, count, outside}
 use Rattle.rules.specs.Private.{any, spans, linesText, LinesSwap, isClosed, encloses, WithheldLines, SameRuns, TwoRuns, in-line, in-block}
 use Rattle.rules.specs.declared.Rules.{Rules}
-use Rattle.runs.proofs.Corresponding.{or-true, At, early, Corresponding, done, next, late-at, same-count, same-outside}
+use Rattle.runs.proofs.Corresponding.{At, early, Corresponding, done, next, late-at, same-count, same-outside}
 use Rattle.runs.proofs.BodyRuns.{body-runs}
 use Rattle.rules.proofs.LineLaws.{sizes}
 use Rattle.runs.proofs.PrivateLines.{ledText, led-is, LineStretch, line-stretch}
@@ -42,7 +42,7 @@ any-more : (f g : Piece → Bool) → ((q : Piece) → f q ≡ true → g q ≡ 
 unfolding any
 any-more f g on [] h = h
 any-more f g on (q ∷ ps) h =
-    split (f q) (λ t. rw (on q t)) (λ t. rw (any-more f g on ps (rw t at h)) (or-true (g q)))
+    split (f q) (λ t. rw (on q t)) (λ t. rw (any-more f g on ps (rw t at h)) (or-yes (g q)))
 
 module _ (ρ : Rules) (flags : List ℕ) {one two : List ℕ} (d : LinesSwap one two) where
   abbrev p : ℕ

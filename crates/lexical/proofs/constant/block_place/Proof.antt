@@ -1,7 +1,6 @@
-use mathlib.Core.Path.{_∙_, ap}
-use Rattle.lexical.specs.Name.{placeFrom, blockPlace, blockNames}
-use Rattle.lexical.proofs.Names.{block-sound, block-count, table-rises, offsets-count, names-are}
-use native.Mathlib.Omega.{arith}
+use mathlib.Core.Path.{_∙_}
+use Rattle.lexical.specs.Name.{blockNames, blockPlace}
+use Rattle.lexical.proofs.Names.{block-sound, looked-up, place-in-list}
 use borrow.Author.Needs.{needs}
 use Rattle.lexical.proofs.constant.block_place.Statement.{statement}
 use Rattle.lexical.proofs.constant.block_place.Tie as tie
@@ -12,21 +11,26 @@ block-names-requires c κs = search needs
 block-offsets-requires : tie.Need-block-offsets-requires
 block-offsets-requires c κs = search needs
 
-slice-aggregate-place-of : tie.Need-slice-aggregate-place-of
-slice-aggregate-place-of c = search needs
+block-starts-requires : tie.Need-block-starts-requires
+block-starts-requires c κs = search needs
 
-slice-aggregate-place-of-2 : tie.Need-slice-aggregate-place-of-2
-slice-aggregate-place-of-2 c = search needs
+slice-aggregate-lookup : tie.Need-slice-aggregate-lookup
+slice-aggregate-lookup c = search needs
 
-place-of-requires : tie.Need-place-of-requires
-place-of-requires c κs =
-    let table = c .before .before .before .block-names .ensures in
-    let offsets = c .before .before .block-offsets .ensures in
-    (table-rises blockNames block-sound _ _ table offsets, omega (arith, offsets-count blockNames block-sound _ _ table offsets, block-count))
+slice-aggregate-lookup-2 : tie.Need-slice-aggregate-lookup-2
+slice-aggregate-lookup-2 c = search needs
+
+slice-aggregate-lookup-3 : tie.Need-slice-aggregate-lookup-3
+slice-aggregate-lookup-3 c = search needs
+
+lookup-requires : tie.Need-lookup-requires
+lookup-requires c κs = looked-up blockNames block-sound _ _ _ (c .before .before .before .before .before .block-names .ensures) (c .before .before .before .before .block-offsets .ensures) (c .before .before .before .block-starts .ensures)
 
 returns : tie.Need-returns
 unfolding blockPlace
-returns c = c .place-of .ensures ∙ ap (placeFrom 0 _) (names-are blockNames block-sound _ _ (c .before .before .before .before .block-names .ensures) (c .before .before .before .block-offsets .ensures))
+returns c =
+    c .lookup .ensures
+    ∙ place-in-list blockNames block-sound _ _ _ (c .before .before .before .before .before .before .block-names .ensures) (c .before .before .before .before .before .block-offsets .ensures) (c .before .before .before .before .block-starts .ensures) _
 
 pub block-place-spec : {M : Type 1} → statement M
 block-place-spec =
@@ -34,7 +38,9 @@ block-place-spec =
     (tie.spec
     block-names-requires
     block-offsets-requires
-    slice-aggregate-place-of
-    slice-aggregate-place-of-2
-    place-of-requires
+    block-starts-requires
+    slice-aggregate-lookup
+    slice-aggregate-lookup-2
+    slice-aggregate-lookup-3
+    lookup-requires
     returns)

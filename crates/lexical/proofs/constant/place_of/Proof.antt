@@ -1,5 +1,5 @@
 -- The invariant: no name before offset `k` is it, so its place among those from there on is its place among all.
-use mathlib.Core.Path.{_≡_, refl, sym, _∙_}
+use mathlib.Core.Path.{_≡_, sym, _∙_}
 use mathlib.Core.List.{map}
 use Prim.Native.Nat.{_≤_, _+_, _-_}
 use native.Mathlib.Omega.{arith}
@@ -29,6 +29,9 @@ mul-start c = search needs
 shared-slice-read-start : tie.Need-shared-slice-read-start Inv-loop μ-loop
 shared-slice-read-start c = search needs
 
+cast-start : tie.Need-cast-start Inv-loop μ-loop
+cast-start c = omega (arith, c .shared-slice-known4 .given (c .before .before .loop .k))
+
 add-end : tie.Need-add-end Inv-loop μ-loop
 add-end c = search needs
 
@@ -37,6 +40,9 @@ mul-end c = search needs
 
 shared-slice-read-end : tie.Need-shared-slice-read-end Inv-loop μ-loop
 shared-slice-read-end c = search needs
+
+cast-end : tie.Need-cast-end Inv-loop μ-loop
+cast-end c = omega (arith, c .shared-slice-known5 .given (c .before .before .before .loop .k + 1))
 
 sub-same-lower : tie.Need-sub-same-lower Inv-loop μ-loop
 sub-same-lower c = let at-loop = c .before .before .before in omega (arith, rises _ _ (c .before .before .before .before .before .before .before .pre .0) (at-loop .loop .k) (c .before .before .loop-test .taken))
@@ -83,9 +89,11 @@ place-of-spec =
     add-loop
     mul-start
     shared-slice-read-start
+    cast-start
     add-end
     mul-end
     shared-slice-read-end
+    cast-end
     sub-same-lower
     part-same-lower-start
     part-same-lower-end
