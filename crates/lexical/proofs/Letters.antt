@@ -6,7 +6,7 @@ use Prim.Native.Nat.{ℕ, zero, suc, _+_, _-_, _<_, _≤_}
 use native.Mathlib.Omega.{arith}
 use lib.Dec.{eqb, leb, ltb}
 use lib.ListN.{length, getD, take, drop}
-use borrow.Author.Tests.{ltb-true, ltb-false, leb-true, eq-eqb, ne-eqb, lt-ltb, le-ltb, le-leb}
+use borrow.Author.Tests.{ltb-true, ltb-false, leb-true, eq-eqb, ne-eqb, lt-ltb, le-ltb, le-leb, lt-leb}
 use Rattle.lexical.specs.Text.{byte, first}
 use Rattle.lexical.specs.Byte.{within}
 use Rattle.lexical.specs.Name.{all, chain, beginningWith, Exactly, namesBelow, startsFrom, letters, letterStarts, byLetter, GoesTo}
@@ -36,12 +36,13 @@ none-below b (x ∷ xs) e =
     let h : b ≤ first x = leb-true b (first x) (and-left (leb b (first x)) (from-byte b xs) e) in
     rw (le-ltb (first x) b h) (none-below b xs (and-right (leb b (first x)) (from-byte b xs) e))
 
-none-begins : (b : ℕ) (names : List (List ℕ)) → from-byte (suc b) names ≡ true → beginningWith b names ≡ []
+-- names whose first bytes all pass a test that b does not: none begins with b
+none-begins : (f : ℕ → Bool) (b : ℕ) (names : List (List ℕ)) → all (λ x. f (first x)) names ≡ true → f b ≡ false → beginningWith b names ≡ []
 unfolding all beginningWith
-none-begins b [] e = refl
-none-begins b (x ∷ xs) e =
-    let h : suc b ≤ first x = leb-true (suc b) (first x) (and-left (leb (suc b) (first x)) (from-byte (suc b) xs) e) in
-    rw (ne-eqb (first x) b (λ z. omega arith)) (none-begins b xs (and-right (leb (suc b) (first x)) (from-byte (suc b) xs) e))
+none-begins f b [] h e = refl
+none-begins f b (x ∷ xs) h e =
+    let d : eqb (first x) b ≡ false = excluded f b (first x) e (and-left (f (first x)) (all (λ y. f (first y)) xs) h) in
+    rw d (none-begins f b xs (and-right (f (first x)) (all (λ y. f (first y)) xs) h) e)
 
 -- the names from where those of a byte begin to where those of the next do are those that begin with it
 abbrev SideBySide : ℕ → List (List ℕ) → Type 0
@@ -67,7 +68,7 @@ module _ (b : ℕ) (x : List ℕ) (xs : List (List ℕ)) (e : chain inOrder (x �
       let a : from-byte (suc b) (x ∷ xs) ≡ true = behind (suc b) x xs e h in
       let n : namesBelow (suc b) (x ∷ xs) ≡ 0 = none-below (suc b) (x ∷ xs) a in
       let z : 0 - namesBelow b (x ∷ xs) ≡ 0 = omega arith in
-      rw (n, z) (sym (none-begins b (x ∷ xs) a))
+      rw (n, z) (sym (none-begins (leb (suc b)) b (x ∷ xs) a (lt-leb (suc b) b (omega arith))))
 
 side-by-side : (b : ℕ) (names : List (List ℕ)) → chain inOrder names ≡ true → SideBySide b names
 unfolding namesBelow beginningWith
@@ -105,14 +106,6 @@ starts-at (suc n) b names (suc k) h = let z : b + suc k ≡ suc b + k = omega ar
 abbrev pub isLower : ℕ → Bool
 isLower b = within (byte "a") (byte "z") b
 
--- no name begins with what is no letter
-no-letter : (b : ℕ) (names : List (List ℕ)) → all (λ x. isLower (first x)) names ≡ true → isLower b ≡ false → beginningWith b names ≡ []
-unfolding all beginningWith
-no-letter b [] h e = refl
-no-letter b (x ∷ xs) h e =
-    let d : eqb (first x) b ≡ false = excluded isLower b (first x) e (and-left (isLower (first x)) (all (λ y. isLower (first y)) xs) h) in
-    rw d (no-letter b xs (and-right (isLower (first x)) (all (λ y. isLower (first y)) xs) h) e)
-
 module _ (names : List (List ℕ)) (e : byLetter names ≡ true) where
   abbrev lettered : Bool
   lettered = all (λ x. isLower (first x)) names
@@ -134,7 +127,7 @@ module _ (names : List (List ℕ)) (e : byLetter names ≡ true) where
 
   -- and nowhere where it is none
   pub at-no-letter : (b : ℕ) → isLower b ≡ false → Exactly names b 0 0
-  at-no-letter b h = record { forward = omega arith; inside = omega arith; same = sym (no-letter b names begin-lower h) }
+  at-no-letter b h = record { forward = omega arith; inside = omega arith; same = sym (none-begins isLower b names begin-lower h) }
 
 -- which of the letters a byte is
 module _ (b : ℕ) (h : isLower b ≡ true) where

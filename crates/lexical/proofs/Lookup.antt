@@ -6,7 +6,7 @@ use mathlib.Core.List.{List, [], _∷_, _++_, append-nil, map}
 use Prim.Native.Nat.{ℕ, zero, suc, _+_, _-_, _<_, _≤_}
 use native.Mathlib.Omega.{arith}
 use lib.Dec.{eqb, leb, ltb}
-use lib.ListN.{length, getD, take, drop, take-append-drop, length-append, length-drop}
+use lib.ListN.{length, getD, take, drop, take-append-drop, length-append, length-drop, drop-of-length-le}
 use lib.Seq.{length-take-le}
 use borrow.Author.Tests.{eq-eqb}
 use Rattle.lexical.specs.Text.{first, none}
@@ -46,10 +46,6 @@ unfolding beginningWith
 begins-twice b [] = refl
 begins-twice b (x ∷ xs) = split (eqb (first x) b) (λ s. rw (s, s) (ap (λ l. x ∷ l) (begins-twice b xs))) (λ s. rw s (begins-twice b xs))
 
-empty : {A : Type 0} (l : List A) → length l ≡ 0 → l ≡ []
-empty [] e = refl
-empty (x ∷ xs) e = absurd (omega arith)
-
 module _ (names : List (List ℕ)) (b from to : ℕ) (e : Exactly names b from to) where
   abbrev front : List (List ℕ)
   front = take from names
@@ -78,10 +74,10 @@ module _ (names : List (List ℕ)) (b from to : ℕ) (e : Exactly names b from t
   counted = ap length begun ∙ length-append (beginningWith b front) (those ++ beginningWith b back) ∙ ap (λ k. length (beginningWith b front) + k) (length-append those (beginningWith b back))
 
   none-before : beginningWith b front ≡ []
-  none-before = empty (beginningWith b front) (omega (arith, counted))
+  none-before = drop-of-length-le (beginningWith b front) {i = 0} (omega (arith, counted))
 
   none-behind : beginningWith b back ≡ []
-  none-behind = empty (beginningWith b back) (omega (arith, counted))
+  none-behind = drop-of-length-le (beginningWith b back) {i = 0} (omega (arith, counted))
 
   place-at : (n : List ℕ) → first n ≡ b → placeFrom 0 n names ≡ placeFrom from n those
   place-at n f =
@@ -126,7 +122,7 @@ module _ (table offsets starts : List ℕ) (t : LetterTable table offsets starts
 
   pub no-name : (name : List ℕ) → length name ≡ 0 → unnamed ≡ placeFrom 0 (map lower name) names
   unfolding placeFrom
-  no-name name e = rw (empty name e) (sym (place-at names none 0 0 (at-no-letter names (t .order) none refl) [] refl))
+  no-name name e = rw (drop-of-length-le name {i = 0} (omega (arith, e))) (sym (place-at names none 0 0 (at-no-letter names (t .order) none refl) [] refl))
 
   -- the places of the names that begin with a byte, and the offsets that cut them
   module _ (b from to : ℕ) (g : GoesTo starts b from to) where

@@ -6,7 +6,7 @@ use mathlib.Core.Bool.{Bool}
 use mathlib.Core.List.{List, [], _∷_, _++_}
 use Prim.Native.Nat.{ℕ, suc, _+_, _-_, _<_, _≤_}
 use native.Mathlib.Omega.{arith}
-use lib.ListN.{length, take, length-append}
+use lib.ListN.{length, take, length-append, drop-of-length-le}
 use lib.Seq.{take-all}
 use Rattle.lexical.specs.Buffer.{stored, Written}
 use Rattle.lexical.proofs.Stores.{stores, from-front, same, written-as}
@@ -33,10 +33,6 @@ pub record Output (text : List ℕ) : Type 0 where
 pub fewer : (lo hi : ℕ) (ps : List Piece) → Ordered lo hi ps → lo + length ps ≤ hi
 fewer lo hi [] o = let b = bounds o in omega arith
 fewer lo hi (p ∷ ps) o = let h = fewer (p .stop) hi ps (others o) in let a = first-from o in let b = first-some o in omega arith
-
-empty : (ps : List Piece) → length ps ≡ 0 → ps ≡ []
-empty [] h = refl
-empty (p ∷ ps) h = absurd (omega (arith, h))
 
 module _ (ρ : Rules) (text flags : List ℕ) where
   pub from-start : remaining ρ text flags (atLine 0 0) ≡ pieces ρ text flags
@@ -133,7 +129,7 @@ module _ (ρ : Rules) (text flags : List ℕ) where
       -- at the end
       module _ (l : length text ≤ from) where
         pub none-remain : remaining ρ text flags c ≡ []
-        none-remain = empty (remaining ρ text flags c) (omega (arith, fewer from (length text) (remaining ρ text flags c) (walking .ordered)))
+        none-remain = drop-of-length-le (remaining ρ text flags c) {i = 0} (omega (arith, fewer from (length text) (remaining ρ text flags c) (walking .ordered)))
 
         pub none-ahead : to-come c from ≡ []
         none-ahead = let e : from ≡ length text = omega (arith, within) in ap (to-come c) e ∙ none-come none-remain
