@@ -41,7 +41,7 @@
 #include <stddef.h>
 #include <stdint.h>
 
-#define FORINGAMO_VERSION "0.3.0"
+#define FORINGAMO_VERSION "0.3.1"
 
 #ifdef __cplusplus
 extern "C" {

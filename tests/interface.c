@@ -1,5 +1,5 @@
 /*
- * The C interface: the layout of its structs, the count of lines, the names in their places, every refusal, and what becomes of the output buffer.
+ * The C interface: the layout of its structs, the count of lines, the names in their places, each first byte of a name, every refusal, and what becomes of the output buffer.
  * tests/interface.sh builds and runs it. A line for each check that fails; the last line is 'N passed, M failed'.
  */
 #include <ctype.h>
@@ -265,20 +265,69 @@ static int is_named(const char *name, int kind, int place) {
     return small && is_block(foringamo_block_scan((uint8_t *)tag, (size_t)length, zeros, 1, 0), 0, kind, 0, place, (size_t)length, (size_t)length);
 }
 
+enum { RAW_NAMES = 4, BLOCK_NAMES = 62 };
+
+static const char *const raw_names[] = {FORINGAMO_RAW_NAMES};
+static const char *const block_names[] = {FORINGAMO_BLOCK_NAMES};
+
 /* The header's names stand in their places. */
 static void names(void) {
-    static const char *const raw[] = {FORINGAMO_RAW_NAMES};
-    static const char *const block[] = {FORINGAMO_BLOCK_NAMES};
     CHECK(FORINGAMO_NO_NAME == 255);
-    CHECK(sizeof raw / sizeof raw[0] == 4);
-    CHECK(sizeof block / sizeof block[0] == 62);
-    for (int place = 0; place < 4; place++) {
-        CHECK(is_named(raw[place], 1, place));
+    CHECK(sizeof raw_names / sizeof raw_names[0] == RAW_NAMES);
+    CHECK(sizeof block_names / sizeof block_names[0] == BLOCK_NAMES);
+    for (int place = 0; place < RAW_NAMES; place++) {
+        CHECK(is_named(raw_names[place], 1, place));
     }
-    for (int place = 0; place < 62; place++) {
-        CHECK(is_named(block[place], 6, place));
+    for (int place = 0; place < BLOCK_NAMES; place++) {
+        CHECK(is_named(block_names[place], 6, place));
     }
     CHECK(is_named("b", 7, 255));
+}
+
+/* The place of a name in a list, with a look at each of its names. */
+static int place_in(const char *const *list, int count, const char *name) {
+    for (int place = 0; place < count; place++) {
+        if (strcmp(list[place], name) == 0) {
+            return place;
+        }
+    }
+    return FORINGAMO_NO_NAME;
+}
+
+/* Whether a tag of this name, but for its first byte, has the kind and the place that a look at each name gives. What is no letter begins no name. */
+static int is_looked_up(const char *name, int first) {
+    char tag[16], small[16];
+    int length = snprintf(tag, sizeof tag, "<%s>", name);
+    snprintf(small, sizeof small, "%s", name);
+    tag[1] = (char)first;
+    small[0] = (char)tolower(first);
+    int raw = isalpha(first) ? place_in(raw_names, RAW_NAMES, small) : FORINGAMO_NO_NAME;
+    int basic = isalpha(first) ? place_in(block_names, BLOCK_NAMES, small) : FORINGAMO_NO_NAME;
+    foringamo_block block = foringamo_block_scan((uint8_t *)tag, (size_t)length, zeros, 1, 0);
+    if (raw != FORINGAMO_NO_NAME) {
+        return block.kind == 1 && block.name == raw;
+    }
+    if (basic != FORINGAMO_NO_NAME) {
+        return block.kind == 6 && block.name == basic;
+    }
+    return block.kind != 1 && block.kind != 6 && block.name == FORINGAMO_NO_NAME;
+}
+
+/* Every byte in place of the first of each name. Behind LF and CR there is another line, with a flag of its own, and behind `/` the name begins. */
+static void first_bytes(void) {
+    for (int first = 0; first < 256; first++) {
+        if (first == '\n' || first == '\r' || first == '/') {
+            continue;
+        }
+        int good = 1;
+        for (int place = 0; place < RAW_NAMES; place++) {
+            good &= is_looked_up(raw_names[place], first);
+        }
+        for (int place = 0; place < BLOCK_NAMES; place++) {
+            good &= is_looked_up(block_names[place], first);
+        }
+        CHECK(good);
+    }
 }
 
 static void inline_scan(void) {
@@ -437,6 +486,7 @@ int main(void) {
     block_scan();
     closers();
     names();
+    first_bytes();
     inline_scan();
     block_trace();
     inline_trace();

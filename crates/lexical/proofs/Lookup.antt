@@ -6,7 +6,7 @@ use mathlib.Core.List.{List, [], _∷_, _++_, append-nil, map}
 use Prim.Native.Nat.{ℕ, zero, suc, _+_, _-_, _<_, _≤_}
 use native.Mathlib.Omega.{arith}
 use lib.Dec.{eqb, leb, ltb}
-use lib.ListN.{length, getD, take, drop, take-append-drop, length-append, length-drop, drop-of-length-le}
+use lib.ListN.{length, getD, take, drop, take-append-drop, length-append, length-take, length-drop, drop-of-length-le}
 use lib.Seq.{length-take-le}
 use borrow.Author.Tests.{eq-eqb}
 use Rattle.lexical.specs.Text.{first, none}
@@ -124,31 +124,30 @@ module _ (table offsets starts : List ℕ) (t : LetterTable table offsets starts
   unfolding placeFrom
   no-name name e = rw (drop-of-length-le name {i = 0} (omega (arith, e))) (sym (place-at names none 0 0 (at-no-letter names (t .order) none refl) [] refl))
 
+  -- any part of the offsets
+  module _ (k m : ℕ) where
+    pub part-rises : rising (length table) (take m (drop k offsets)) ≡ true
+    unfolding rising
+    part-rises =
+        let below = and-left (all (λ o. leb o (length table)) offsets) (chain ltb offsets) (t .rise) in
+        let strict = and-right (all (λ o. leb o (length table)) offsets) (chain ltb offsets) (t .rise) in
+        rw (all-part (λ o. leb o (length table)) k m offsets below) (chain-part ltb k m offsets strict)
+
+    pub part-few : k < length offsets → k + length (take m (drop k offsets)) ≤ unnamed
+    part-few h = omega (arith, length-take m (drop k offsets), length-drop k offsets, t .few)
+
   -- the places of the names that begin with a byte, and the offsets that cut them
   module _ (b from to : ℕ) (g : GoesTo starts b from to) where
     exact : Exactly names b from to
     exact = g names (t .order) (t .begin)
 
-    abbrev part : List ℕ
-    part = take (to + 1 - from) (drop from offsets)
+    pub forward : from ≤ to
+    forward = exact .forward
 
-    pub part-forward : from ≤ to + 1
-    part-forward = omega (arith, exact .forward)
+    pub inside : to < length offsets
+    inside = omega (arith, exact .inside, t .counted)
 
-    pub part-inside : to + 1 ≤ length offsets
-    part-inside = omega (arith, exact .inside, t .counted)
-
-    pub part-rises : rising (length table) part ≡ true
-    unfolding rising
-    part-rises =
-        let below = and-left (all (λ o. leb o (length table)) offsets) (chain ltb offsets) (t .rise) in
-        let strict = and-right (all (λ o. leb o (length table)) offsets) (chain ltb offsets) (t .rise) in
-        rw (all-part (λ o. leb o (length table)) from (to + 1 - from) offsets below) (chain-part ltb from (to + 1 - from) offsets strict)
-
-    pub part-few : from + length part ≤ unnamed
-    part-few = omega (arith, length-take-le (to + 1 - from) (drop from offsets) (omega (arith, length-drop from offsets, part-inside)), part-inside, part-forward, t .few)
-
-    place-among : (n : List ℕ) → first n ≡ b → placeFrom from n (cut table part) ≡ placeFrom 0 n names
+    place-among : (n : List ℕ) → first n ≡ b → placeFrom from n (cut table (take (to + 1 - from) (drop from offsets))) ≡ placeFrom 0 n names
     place-among n f =
         let z : to + 1 - from ≡ suc (to - from) = omega (arith, exact .forward) in
         ap (λ k. placeFrom from n (cut table (take k (drop from offsets)))) z

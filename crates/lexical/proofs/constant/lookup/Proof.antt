@@ -1,5 +1,7 @@
 use mathlib.Core.Path.{_∙_}
-use Rattle.lexical.proofs.Lookup.{starts-long, no-name, part-forward, part-inside, part-rises, part-few, place-is}
+use Prim.Native.Nat.{_+_, _-_}
+use native.Mathlib.Omega.{arith}
+use Rattle.lexical.proofs.Lookup.{starts-long, no-name, part-rises, part-few, forward, inside, place-is}
 use borrow.Author.Needs.{needs}
 use Rattle.lexical.proofs.constant.lookup.Statement.{statement}
 use Rattle.lexical.proofs.constant.lookup.Tie as tie
@@ -26,19 +28,21 @@ mul-place-of : tie.Need-mul-place-of
 mul-place-of c = search needs
 
 sub-place-of : tie.Need-sub-place-of
-sub-place-of c = part-forward _ _ _ (c .before .before .before .before .before .before .before .before .before .pre) _ _ _ (c .before .before .places-of .ensures)
+sub-place-of c = omega (arith, forward _ _ _ (c .before .before .before .before .before .before .before .before .before .pre) _ _ _ (c .before .before .places-of .ensures))
 
 part-place-of-start : tie.Need-part-place-of-start
-part-place-of-start c = part-forward _ _ _ (c .before .before .before .before .before .before .before .before .before .pre) _ _ _ (c .before .before .places-of .ensures)
+part-place-of-start c = omega (arith, forward _ _ _ (c .before .before .before .before .before .before .before .before .before .pre) _ _ _ (c .before .before .places-of .ensures))
 
 part-place-of-end : tie.Need-part-place-of-end
-part-place-of-end c = part-inside _ _ _ (c .before .before .before .before .before .before .before .before .before .pre) _ _ _ (c .before .before .places-of .ensures)
+part-place-of-end c = omega (arith, inside _ _ _ (c .before .before .before .before .before .before .before .before .before .pre) _ _ _ (c .before .before .places-of .ensures))
 
 place-of-requires : tie.Need-place-of-requires
 place-of-requires c κs =
     let table = c .before .before .before .before .before .before .before .before .before .before .pre in
     let places = c .before .before .before .places-of .ensures in
-    (part-rises _ _ _ table _ _ _ places, part-few _ _ _ table _ _ _ places)
+    let from = c .before .before .before .places-of .result .from in
+    let size = c .before .before .before .places-of .result .to + 1 - from in
+    (part-rises _ _ _ table from size, part-few _ _ _ table from size (omega (arith, forward _ _ _ table _ _ _ places, inside _ _ _ table _ _ _ places)))
 
 returns-2 : tie.Need-returns-2
 returns-2 c = c .place-of .ensures ∙ place-is _ _ _ (c .before .before .before .before .before .before .before .before .before .before .before .pre) (c .before .before .before .before .before .before .before .before .before .before .before .args .name .now) _ _ (c .before .before .before .before .places-of .ensures) (c .before .before .before .before .before .before .if1 .left)
