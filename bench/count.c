@@ -1,6 +1,6 @@
 /*
  * One call again and again, for bench/count.sh and bench/place.sh: 'count INPUT' scans or withholds 16,000 bytes 200 times, and writes what the answers add up to;
- * 'count INPUT time' does so 100 times, and writes the least time of a call in microseconds.
+ * 'count INPUT time' does so 100 times, and writes the least time of a call in microseconds. An input that begins with '=' is a unit, to be withheld again and again.
  */
 #include "foringamo.h"
 
@@ -103,12 +103,18 @@ int main(int count, char **words)
     } else if (!strcmp(input, "row")) {
         repeat("Row <tr><td>4</td><td class=\"a\">open</td></tr>\n");
         call = withholds;
+    } else if (!strcmp(input, "raw")) {
+        repeat("<pre>x</pre>\n");
+        call = withholds;
     } else if (!strcmp(input, "marks")) {
         repeat("<?");
         call = withholds;
     } else if (!strcmp(input, "long")) {
         enclose("<div>\n", "the stairs are shut until noon\n", "</div>");
         call = finds_block;
+    } else if (input[0] == '=' && input[1]) {
+        repeat(input + 1);
+        call = withholds;
     } else {
         return 2;
     }

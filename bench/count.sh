@@ -1,10 +1,11 @@
 #!/usr/bin/env bash
-# Counts instructions, which are the same however busy the machine is: twelve inputs of 16,000 bytes, each 200 times.
+# Counts instructions, which are the same however busy the machine is: thirteen inputs of 16,000 bytes, each 200 times.
 #
 #     bench/count.sh [ARCHIVE..]
 #
 # ARCHIVE is target/staticlib/libforingamo.a where none is given, which scripts/archive.sh builds where it must. With several, as that of an earlier commit and today's,
-# a line has the count of each in turn, and their answers must be the same. The profiles are target/count/INPUT, target/count/INPUT1 and so on. It needs cc and valgrind.
+# a line has the count of each in turn, and their answers must be the same. The profiles are target/count/INPUT, and of the further ones INPUT1 and so on. It needs cc
+# and valgrind.
 archives=()
 for archive in "$@"; do
     archives+=("$(readlink -e -- "$archive")") || {
@@ -29,7 +30,7 @@ mkdir -p "$built" || exit 1
 for i in "${!archives[@]}"; do
     cc -std=c11 -O2 -Wall -Wextra -Wpedantic -Werror -Iinclude -o "$built/count$i" bench/count.c "${archives[i]}" || exit 1
 done
-for input in comment value attributes prose tags blocks late lines table row marks long; do
+for input in comment value attributes prose tags blocks late lines table row raw marks long; do
     counts= answers=
     for i in "${!archives[@]}"; do
         sum=$(valgrind --tool=callgrind --callgrind-out-file="$built/$input${i#0}" "$built/count$i" "$input" 2>"$built/said") || exit 1

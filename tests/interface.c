@@ -1,6 +1,6 @@
 /*
- * The C interface: the layout of its structs, the count of lines, the names in their places, each first byte of a name, every refusal, and what becomes of the output buffer.
- * tests/interface.sh builds and runs it. A line for each check that fails; the last line is 'N passed, M failed'.
+ * The C interface: the layout of its structs, the count of lines, the names in their places, each first byte of a name, every refusal, and what becomes of the
+ * output buffer. tests/interface.sh builds and runs it. A line for each check that fails; the last line is 'N passed, M failed'.
  */
 #include <ctype.h>
 #include <stdio.h>
