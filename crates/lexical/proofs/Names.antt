@@ -140,8 +140,8 @@ module _ (names : List (List ℕ)) (e : sound names ≡ true) where
     offsets-count : length offsets ≡ suc (length names)
     offsets-count = ap length o ∙ offsets-length 0 names
 
-    pub looked-up : LetterTable table offsets starts
-    looked-up =
+    pub letter-table : LetterTable table offsets starts
+    letter-table =
         record {
           rise = rw (t, o) offsets-rise;
           counted = offsets-count ∙ ap (λ l. suc (length l)) (sym names-are);

@@ -210,7 +210,7 @@ struct Places {
 }
 
 // The places of the names that begin with a byte, in either case.
-fn places_of(first: u8, starts: &[u8]) -> Places
+fn letter_places(first: u8, starts: &[u8]) -> Places
     requires { ⌜ letters < length (now starts) ⌝ }
     ensures { λ r. ⌜ GoesTo (now (starts .entry)) (lower first) (r .from) (r .to) ⌝ }
 {
@@ -233,7 +233,7 @@ fn lookup(name: &[u8], table: &[u8], offsets: &[u16], starts: &[u8]) -> u8
     if name.len() == 0 {
         return NO_NAME;
     }
-    let places = places_of(name[0], starts);
+    let places = letter_places(name[0], starts);
     let from = places.from as usize;
     let to = places.to as usize;
     place_of(name, table, &offsets[from..to + 1], places.from)

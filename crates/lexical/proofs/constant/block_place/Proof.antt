@@ -1,6 +1,6 @@
 use mathlib.Core.Path.{_∙_}
 use Rattle.lexical.specs.Name.{blockNames, blockPlace}
-use Rattle.lexical.proofs.Names.{block-sound, looked-up, place-in-list}
+use Rattle.lexical.proofs.Names.{block-sound, letter-table, place-in-list}
 use borrow.Author.Needs.{needs}
 use Rattle.lexical.proofs.constant.block_place.Statement.{statement}
 use Rattle.lexical.proofs.constant.block_place.Tie as tie
@@ -24,7 +24,7 @@ slice-aggregate-lookup-3 : tie.Need-slice-aggregate-lookup-3
 slice-aggregate-lookup-3 c = search needs
 
 lookup-requires : tie.Need-lookup-requires
-lookup-requires c κs = looked-up blockNames block-sound _ _ _ (c .before .before .before .before .before .block-names .ensures) (c .before .before .before .before .block-offsets .ensures) (c .before .before .before .block-starts .ensures)
+lookup-requires c κs = letter-table blockNames block-sound _ _ _ (c .before .before .before .before .before .block-names .ensures) (c .before .before .before .before .block-offsets .ensures) (c .before .before .before .block-starts .ensures)
 
 returns : tie.Need-returns
 unfolding blockPlace

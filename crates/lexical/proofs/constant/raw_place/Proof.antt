@@ -1,6 +1,6 @@
 use mathlib.Core.Path.{_∙_}
 use Rattle.lexical.specs.Name.{rawNames, rawPlace}
-use Rattle.lexical.proofs.Names.{raw-sound, looked-up, place-in-list}
+use Rattle.lexical.proofs.Names.{raw-sound, letter-table, place-in-list}
 use borrow.Author.Needs.{needs}
 use Rattle.lexical.proofs.constant.raw_place.Statement.{statement}
 use Rattle.lexical.proofs.constant.raw_place.Tie as tie
@@ -24,7 +24,7 @@ slice-aggregate-lookup-3 : tie.Need-slice-aggregate-lookup-3
 slice-aggregate-lookup-3 c = search needs
 
 lookup-requires : tie.Need-lookup-requires
-lookup-requires c κs = looked-up rawNames raw-sound _ _ _ (c .before .before .before .before .before .raw-names .ensures) (c .before .before .before .before .raw-offsets .ensures) (c .before .before .before .raw-starts .ensures)
+lookup-requires c κs = letter-table rawNames raw-sound _ _ _ (c .before .before .before .before .before .raw-names .ensures) (c .before .before .before .before .raw-offsets .ensures) (c .before .before .before .raw-starts .ensures)
 
 returns : tie.Need-returns
 unfolding rawPlace

@@ -1,8 +1,8 @@
 use native.Mathlib.Omega.{arith}
 use Rattle.lexical.proofs.Letters.{letter-least, letter-most, goes-letter, goes-nowhere}
 use borrow.Author.Needs.{needs}
-use Rattle.lexical.proofs.constant.places_of.Statement.{statement}
-use Rattle.lexical.proofs.constant.places_of.Tie as tie
+use Rattle.lexical.proofs.constant.letter_places.Statement.{statement}
+use Rattle.lexical.proofs.constant.letter_places.Tie as tie
 
 to-ascii-lowercase-requires : tie.Need-to-ascii-lowercase-requires
 to-ascii-lowercase-requires c κs = search needs
@@ -28,8 +28,8 @@ returns c = goes-letter _ _ _ (c .before .before .before .to-ascii-lowercase .en
 returns-2 : tie.Need-returns-2
 returns-2 c = goes-nowhere _ _ _ (c .before .to-ascii-lowercase .ensures) (c .if1 .left)
 
-pub places-of-spec : {M : Type 1} → statement M
-places-of-spec =
+pub letter-places-spec : {M : Type 1} → statement M
+letter-places-spec =
     tie.close
     (tie.spec
     to-ascii-lowercase-requires
