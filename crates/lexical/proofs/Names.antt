@@ -1,6 +1,6 @@
 -- The two tables of names. One computed test says of both that their bytes are lower case letters or digits, their names are in order and by letter, their
--- offsets rise, are few enough and cut just the names; the laws turn it into the rule at each entry. Then the lookup: one turn compares a name with the part between two offsets; and what the
--- place that it gives says of the name.
+-- offsets rise and cut just the names, and these are few enough for a place to be a byte; the laws turn it into the rule at each entry. Then the lookup: one turn
+-- compares a name with the part between two offsets; and what the place that it gives says of the name.
 use mathlib.Core.Path.{_≡_, refl, sym, _∙_, ap}
 use mathlib.Core.Bool.{Bool, true, false, _&&_, _||_, not}
 use mathlib.Core.List.{List, [], _∷_, map}
