@@ -327,7 +327,17 @@ check 'a program that a signal ends' 139 env WITHHOLD_PROGRAM="$folder/stand-in"
 
 # ---- signals
 
-# ends_by SIGNAL STATUS: a run that waits for its input is sent the signal, and neither it nor the program is left.
+# left PID: what still runs there after five seconds, or nothing as soon as it has ended.
+left() {
+    for ((k = 0; k < 100; k++)); do
+        [ -n "$(readlink "/proc/$1/exe")" ] || return
+        sleep 0.05
+    done
+    readlink "/proc/$1/exe"
+}
+
+# ends_by SIGNAL STATUS: a run that waits for its input is sent the signal, and neither it nor the program is left. The signal does by default what it does for a
+# user: a script cannot trap one that was ignored when it began, as SIGHUP is behind nohup.
 ends_by() {
     local run status child=''
     rm -f "$folder/fifo"
@@ -335,7 +345,7 @@ ends_by() {
     exec 7<>"$folder/fifo"
     # Job control, since a shell without it has its background commands ignore SIGINT.
     set -m
-    ./withhold.sh <"$folder/fifo" >/dev/null 2>&1 7>&- &
+    env --default-signal="$1" ./withhold.sh <"$folder/fifo" >/dev/null 2>&1 7>&- &
     run=$!
     set +m
     for ((k = 0; k < 200; k++)); do
@@ -344,14 +354,13 @@ ends_by() {
         sleep 0.05
     done
     kill "-$1" "$run"
+    is "SIG$1: the run that is left" "$(left "$run")" ''
+    # One that goes on is not waited for.
+    kill -KILL "$run" 2>/dev/null
     wait "$run" 2>/dev/null
     status=$?
     is "SIG$1" "$status" "$2"
-    for ((k = 0; k < 100; k++)); do
-        [ -n "$(readlink "/proc/${child%% *}/exe")" ] || break
-        sleep 0.05
-    done
-    is "SIG$1: the program that is left" "$(readlink "/proc/${child%% *}/exe")" ''
+    is "SIG$1: the program that is left" "$(left "${child%% *}")" ''
     exec 7>&-
 }
 ends_by TERM 143
@@ -538,11 +547,7 @@ done
 kill -TERM "$building"
 wait "$building" 2>/dev/null
 is 'a build that SIGTERM ends' $? 143
-for ((k = 0; k < 100; k++)); do
-    [ -n "$(readlink "/proc/$(<"$folder/pid")/exe")" ] || break
-    sleep 0.05
-done
-is 'a build that SIGTERM ends: the rt that is left' "$(readlink "/proc/$(<"$folder/pid")/exe")" ''
+is 'a build that SIGTERM ends: the rt that is left' "$(left "$(<"$folder/pid")")" ''
 count=$((count + 1))
 rebuilds 'a build that a signal ended'
 
