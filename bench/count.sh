@@ -6,29 +6,15 @@
 # ARCHIVE is target/staticlib/libforingamo.a where none is given, which scripts/archive.sh builds where it must. With several, as that of an earlier commit and today's,
 # a line has the count of each in turn, and their answers must be the same. The profiles are target/count/INPUT, and of the further ones INPUT1 and so on. It needs cc
 # and valgrind.
-archives=()
-for archive in "$@"; do
-    archives+=("$(readlink -e -- "$archive")") || {
-        echo "there is no $archive" >&2
-        exit 1
-    }
-done
-cd "$(dirname "$0")/.." || exit 1
+command -v valgrind >/dev/null || {
+    echo 'there is no valgrind: nothing is counted' >&2
+    exit 1
+}
+. "$(dirname "$0")/archives.sh"
 built=target/count
-for tool in cc valgrind; do
-    command -v "$tool" >/dev/null || {
-        echo "there is no $tool: nothing is counted" >&2
-        exit 1
-    }
-done
-if [ $# -eq 0 ]; then
-    archives=(target/staticlib/libforingamo.a)
-    scripts/archive.sh >&2 || exit 1
-fi
-
 mkdir -p "$built" || exit 1
 for i in "${!archives[@]}"; do
-    cc -std=c11 -O2 -Wall -Wextra -Wpedantic -Werror -Iinclude -o "$built/count$i" bench/count.c "${archives[i]}" || exit 1
+    build "$built/count$i" "${archives[i]}" || exit 1
 done
 for input in comment value attributes prose tags blocks late lines table row raw marks long; do
     counts= answers=

@@ -13,30 +13,14 @@ if [ $# -lt 1 ]; then
 fi
 input=$1
 shift
-archives=()
-for archive in "$@"; do
-    archives+=("$(readlink -e -- "$archive")") || {
-        echo "there is no $archive" >&2
-        exit 1
-    }
-done
-cd "$(dirname "$0")/.." || exit 1
+. "$(dirname "$0")/archives.sh"
 built=target/place
-command -v cc >/dev/null || {
-    echo 'there is no cc: nothing is timed' >&2
-    exit 1
-}
-if [ $# -eq 0 ]; then
-    archives=(target/staticlib/libforingamo.a)
-    scripts/archive.sh >&2 || exit 1
-fi
-
 mkdir -p "$built" || exit 1
 for bytes in 0 16 32 48 64 96; do
     printf '.text\n.fill %d, 1, 0x90\n.section .note.GNU-stack,"",@progbits\n' "$bytes" >"$built/bytes.s"
     times=
     for archive in "${archives[@]}"; do
-        cc -std=c11 -O2 -Wall -Wextra -Wpedantic -Werror -Iinclude -o "$built/count" bench/count.c "$built/bytes.s" "$archive" || exit 1
+        build "$built/count" "$built/bytes.s" "$archive" || exit 1
         times+=" $("$built/count" "$input" time)" || exit 1
     done
     echo "$bytes bytes:$times microseconds"

@@ -207,14 +207,17 @@ place-member k n [] h = refl
 place-member k n (x ∷ xs) h =
     split (sameBytes n x) (λ e. let u = ne-eqb k unnamed (λ z. omega arith) in rw (e, u)) (λ e. rw e (place-member (suc k) n xs (omega arith)))
 
+place-tells : (names : List (List ℕ)) → sound names ≡ true → (n : List ℕ) (place : ℕ) → place ≡ placeFrom 0 n names → isMember n names ≡ not (eqb place unnamed)
+place-tells names s n place e = place-member 0 n names (omega (arith, count-fits names s)) ∙ ap (λ p. not (eqb p unnamed)) (sym e)
+
 module _ (n : List ℕ) (place : ℕ) where
   pub block-place-is : place ≡ blockPlace n → isBlockName n ≡ not (eqb place unnamed)
   unfolding isBlockName blockPlace
-  block-place-is e = place-member 0 (map lower n) blockNames (omega (arith, block-count)) ∙ ap (λ p. not (eqb p unnamed)) (sym e)
+  block-place-is e = place-tells blockNames block-sound (map lower n) place e
 
   pub raw-place-is : place ≡ rawPlace n → isRawName n ≡ not (eqb place unnamed)
   unfolding isRawName rawPlace
-  raw-place-is e = place-member 0 (map lower n) rawNames (omega (arith, raw-count)) ∙ ap (λ p. not (eqb p unnamed)) (sym e)
+  raw-place-is e = place-tells rawNames raw-sound (map lower n) place e
 
 -- ---- the name at the place is it
 -- in a list whose first name has the place k
