@@ -336,10 +336,19 @@ left() {
     readlink "/proc/$1/exe"
 }
 
-# ends_by SIGNAL STATUS: a run that waits for its input is sent the signal, and neither it nor the program is left. The signal does by default what it does for a
-# user: a script cannot trap one that was ignored when it began, as SIGHUP is behind nohup.
+# ended WHAT SIGNAL PID STATUS: the run there is sent the signal, and ends with the status. One that goes on is not waited for.
+ended() {
+    kill "-$2" "$3"
+    is "$1: the run that is left" "$(left "$3")" ''
+    kill -KILL "$3" 2>/dev/null
+    wait "$3" 2>/dev/null
+    is "$1" $? "$4"
+}
+
+# ends_by SIGNAL STATUS: a run that waits for its input is sent the signal, and neither it nor the program is left. The run begins with the signal's default
+# action: a script cannot trap what was ignored when it began, as SIGHUP is behind nohup.
 ends_by() {
-    local run status child=''
+    local run child=''
     rm -f "$folder/fifo"
     mkfifo "$folder/fifo"
     exec 7<>"$folder/fifo"
@@ -353,13 +362,7 @@ ends_by() {
         [[ -z $child || $(readlink "/proc/${child%% *}/exe") != "$program" ]] || break
         sleep 0.05
     done
-    kill "-$1" "$run"
-    is "SIG$1: the run that is left" "$(left "$run")" ''
-    # One that goes on is not waited for.
-    kill -KILL "$run" 2>/dev/null
-    wait "$run" 2>/dev/null
-    status=$?
-    is "SIG$1" "$status" "$2"
+    ended "SIG$1" "$1" "$run" "$2"
     is "SIG$1: the program that is left" "$(left "${child%% *}")" ''
     exec 7>&-
 }
@@ -538,15 +541,13 @@ runs 'a run beside one that waits for its input' "$count"
 # A build that a signal ends leaves nothing running.
 touch "$copy/crates/screen/src/withhold.rt"
 rm -f "$folder/pid"
-STAND_IN_TIME=5 PATH=$folder/bin:$PATH "$copy/withhold.sh" <"$folder/in" >"$folder/out" 2>/dev/null &
+STAND_IN_TIME=5 PATH=$folder/bin:$PATH env --default-signal=TERM "$copy/withhold.sh" <"$folder/in" >"$folder/out" 2>/dev/null &
 building=$!
 for ((k = 0; k < 200; k++)); do
     [ ! -s "$folder/pid" ] || break
     sleep 0.05
 done
-kill -TERM "$building"
-wait "$building" 2>/dev/null
-is 'a build that SIGTERM ends' $? 143
+ended 'a build that SIGTERM ends' TERM "$building" 143
 is 'a build that SIGTERM ends: the rt that is left' "$(left "$(<"$folder/pid")")" ''
 count=$((count + 1))
 rebuilds 'a build that a signal ended'
