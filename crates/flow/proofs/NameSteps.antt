@@ -1,28 +1,21 @@
--- What a tag's name opens, by the tests of the code: the name and what follows it are cut at the end of the name.
+-- What a tag's name opens, by the tests of the code.
 use mathlib.Core.Path.{_≡_, refl, sym, _∙_, ap}
 use mathlib.Core.Bool.{Bool, true, false, _&&_, not}
 use mathlib.Core.List.{List}
-use Prim.Native.Nat.{ℕ, _+_, _-_}
-use native.Mathlib.Omega.{arith}
+use Prim.Native.Nat.{ℕ, _+_}
 use lib.Dec.{eqb}
-use lib.ListN.{take, drop}
-use lib.Seq.{drop-drop}
+use lib.ListN.{drop}
 use Rattle.lexical.specs.Text.{byte, bytes, first, run}
 use Rattle.lexical.specs.Byte.{isTagNameByte, isNameBreak}
 use Rattle.lexical.specs.Name.{isBlockName, isRawName}
 use Rattle.rules.specs.Search.{choose, begins}
 use Rattle.rules.specs.Block.{nameOf, afterName}
 use Rattle.rules.specs.declared.Rules.{Rules}
+use Rattle.rules.proofs.NameLaws.{after-cut}
+use Rattle.rules.proofs.Prefix.{one-first}
 use Rattle.flow.specs.OpenMachine.{selfClosingOf, completeOf, tagNameOf}
-use Rattle.flow.proofs.OpenSteps.{one-first}
 
 module _ (line : List ℕ) (at end : ℕ) (ends : end ≡ at + run isTagNameByte (drop at line)) where
-  pub name-cut : take (end - at) (drop at line) ≡ nameOf (drop at line)
-  name-cut = let e : end - at ≡ run isTagNameByte (drop at line) = omega (arith, ends) in ap (λ (n : ℕ). take n (drop at line)) e
-
-  pub after-cut : drop end line ≡ afterName (drop at line)
-  after-cut = ap (λ (n : ℕ). drop n line) ends ∙ sym (drop-drop (run isTagNameByte (drop at line)) at line)
-
   abbrev n : List ℕ
   n = nameOf (drop at line)
 
@@ -34,10 +27,10 @@ module _ (line : List ℕ) (at end : ℕ) (ends : end ≡ at + run isTagNameByte
     opens = tagNameOf ρ f closing n a
 
     break-here : (t : Bool) → isNameBreak (drop end line) ≡ t → isNameBreak a ≡ t
-    break-here t h = ap isNameBreak (sym after-cut) ∙ h
+    break-here t h = ap isNameBreak (sym (after-cut line at end ends)) ∙ h
 
     slash-here : (t : Bool) → eqb (first (drop end line)) (byte "/") ≡ t → begins (bytes "/") a ≡ t
-    slash-here t h = one-first (byte "/") a refl ∙ ap (λ (s : List ℕ). eqb (first s) (byte "/")) (sym after-cut) ∙ h
+    slash-here t h = one-first (byte "/") a refl ∙ ap (λ (s : List ℕ). eqb (first s) (byte "/")) (sym (after-cut line at end ends)) ∙ h
 
     pub no-break : isNameBreak (drop end line) ≡ false → opens ≡ 0
     unfolding tagNameOf
@@ -55,7 +48,7 @@ module _ (line : List ℕ) (at end : ℕ) (ends : end ≡ at + run isTagNameByte
       raw-name h = by-tests ∙ ap (λ t. choose t (λ _. 1) (λ _. choose (isBlockName n) (λ _. choose s (λ _. selfClosingOf a) (λ _. 6)) (λ _. completeOf ρ f closing r a))) h
 
       pub block-name : (r && (not closing && not s)) ≡ false → isBlockName n ≡ true → opens ≡ choose s (λ _. selfClosingOf (drop end line)) (λ _. 6)
-      block-name h b = by-tests ∙ rw (h, b, after-cut)
+      block-name h b = by-tests ∙ rw (h, b, after-cut line at end ends)
 
       pub other-name : (r && (not closing && not s)) ≡ false → isBlockName n ≡ false → opens ≡ completeOf ρ f closing r (drop end line)
-      other-name h b = by-tests ∙ rw (h, b, after-cut)
+      other-name h b = by-tests ∙ rw (h, b, after-cut line at end ends)

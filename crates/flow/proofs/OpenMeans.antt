@@ -12,7 +12,7 @@ use Rattle.lexical.specs.Text.{byte, bytes, pick, first, run}
 use Rattle.lexical.specs.Byte.{isLetter, isTagNameByte, isSpaceOrTab, isLineEndingByte, isWhitespace, isNameBreak}
 use Rattle.lexical.specs.Name.{isBlockName, isRawName}
 use Rattle.lexical.proofs.Cases.{split, clash, and-left, or-left, or-right, excluded, and-yes, and-no, or-no, letter-byte}
-use Rattle.lexical.proofs.RawNames.{raw-first, block-first}
+use Rattle.lexical.proofs.Members.{raw-first, block-first}
 use Rattle.rules.specs.Search.{choose, begins, past, exactly}
 use Rattle.rules.specs.Tag.{blockTags, attributes, openTag, closingTag}
 use Rattle.rules.specs.Block.{nameOf, afterName, nameEnds, startsRaw, basicName, startsBasic, fillsLine, startsComplete, mayStart, kindAt}

@@ -7,11 +7,11 @@ use native.Mathlib.Omega.{arith}
 use lib.Dec.{eqb, leb}
 use lib.ListN.{length, getD, take, drop}
 use borrow.Author.Tests.{eqb-true, ne-eqb, lt-leb, le-leb}
-use Rattle.lexical.specs.Text.{byte, bytes, none, first, run}
+use Rattle.lexical.specs.Text.{byte, bytes, first, run}
 use Rattle.lexical.specs.Byte.{isLetter, isSpaceOrTab, isLineEndingByte}
 use Rattle.lexical.specs.Name.{cdataPrefix}
 use Rattle.lexical.specs.Line.{lineLength}
-use Rattle.lexical.proofs.Cases.{split, excluded, and-yes}
+use Rattle.lexical.proofs.Cases.{split, excluded}
 use Rattle.lexical.proofs.Suffix.{suffix-in, suffix-out, first-in}
 use Rattle.rules.specs.Search.{choose, begins}
 use Rattle.rules.specs.Tag.{blockTags, attributes}
@@ -19,6 +19,7 @@ use Rattle.rules.specs.Block.{nameOf, afterName, fillsLine, mayStart, kindAt, k
 use Rattle.rules.specs.Lines.{Line, line}
 use Rattle.rules.specs.declared.Rules.{Rules}
 use Rattle.rules.proofs.Cut.{space-apart}
+use Rattle.rules.proofs.Prefix.{one-first}
 use Rattle.flow.specs.Answer.{openingNumber}
 use Rattle.flow.specs.declared.html_flow.Opening.{Opening}
 use Rattle.flow.specs.CompleteMachine.{runOf}
@@ -63,18 +64,9 @@ module _ (line : List ℕ) (i : ℕ) where
   unfolding selfClosingOf
   self-other h e = rw (suffix-in line i h, ne-eqb (getD line i 0) (byte "/") e)
 
-  mark-first : (s : List ℕ) → begins (bytes ">") s ≡ eqb (first s) (byte ">")
-  mark-first [] = refl
-  mark-first (x ∷ xs) = and-yes (eqb x (byte ">"))
-
   pub self-in : i < length line → getD line i 0 ≡ byte "/" → selfClosingOf (drop i line) ≡ choose (eqb (first (drop (i + 1) line)) (byte ">")) (λ _. 6) (λ _. 0)
   unfolding selfClosingOf
-  self-in h e = rw (suffix-in line i h, e) (ap (λ b. choose b (λ _. 6) (λ _. 0)) (mark-first (drop (i + 1) line)))
-
--- one byte in front
-pub one-first : (p : ℕ) (s : List ℕ) → eqb none p ≡ false → begins (p ∷ []) s ≡ eqb (first s) p
-one-first p [] e = sym e
-one-first p (x ∷ xs) e = and-yes (eqb x p)
+  self-in h e = rw (suffix-in line i h, e) (ap (λ b. choose b (λ _. 6) (λ _. 0)) (one-first (byte ">") (drop (i + 1) line) refl))
 
 pub comment-first : (s : List ℕ) → commentOpenOf s ≡ choose (eqb (first s) (byte "-")) (λ _. 2) (λ _. 0)
 unfolding commentOpenOf

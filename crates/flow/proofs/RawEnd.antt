@@ -15,7 +15,7 @@ use Rattle.lexical.specs.Byte.{isLetter, isTagNameByte, isLineEndingByte}
 use Rattle.lexical.specs.Line.{isInner}
 use Rattle.lexical.specs.Name.{isRawName}
 use Rattle.lexical.proofs.Cases.{split, clash, or-left, and-no, and-yes, letter-byte}
-use Rattle.lexical.proofs.RawNames.{raw-letters, raw-length}
+use Rattle.lexical.proofs.Members.{raw-letters, raw-length}
 use Rattle.lexical.proofs.Table.{all-at}
 use Rattle.lexical.proofs.Suffix.{suffix-in, suffix-out, first-in, first-out}
 use Rattle.rules.specs.Search.{begins}

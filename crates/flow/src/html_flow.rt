@@ -10,9 +10,7 @@ ghost use Rattle.rules.specs.Block.{isRawEnd, beforeCloser, closes};
 ghost use Rattle.flow.specs.Answer.{kindNumber};
 ghost use Rattle.flow.specs.ContinuationMachine.{continuationOf, commentInsideOf, cdataInsideOf, stays, declarationInsideOf, nextOf, isClose, isContinuation, closerStart, closerLength, closedAt, rawEndOf};
 ghost use Rattle.flow.specs.declared.html_flow.ContinuationName.the-variants.{Continuation, ContinuationClose};
-ghost use Prim.Native.Nat.{_+_};
-ghost use Rattle.lexical.specs.Text.{run, byte};
-ghost use Rattle.lexical.specs.Byte.{isTagNameByte};
+ghost use Rattle.lexical.specs.Text.{byte};
 ghost use mathlib.Core.List.{[], _∷_};
 ghost use Rattle.lexical.specs.Name.{cdataPrefix};
 ghost use Rattle.rules.specs.Search.{begins};
@@ -42,10 +40,10 @@ use lexical::byte::is_name_start;
 use lexical::byte::is_quote;
 use lexical::byte::is_space_or_tab;
 use lexical::byte::is_tag_break;
-use lexical::byte::is_tag_name_byte;
 use lexical::byte::is_value_end;
 use lexical::byte::is_value_excluded;
 use lexical::byte::is_whitespace;
+use lexical::byte::name_end;
 use lexical::byte::peek;
 use lexical::constant::HTML_CDATA_SIZE;
 use lexical::constant::HTML_RAW_SIZE_MAX;
@@ -540,21 +538,6 @@ pub fn closes_line(rules: Rules, kind: Kind, line: &[u8]) -> bool
     ensures { λ r. ⌜ r ≡ closes rules (kindNumber kind) (now (line .entry)) ⌝ }
 {
     before_closer(rules, kind, line) < line.len()
-}
-
-// Past the tag name that begins at an index.
-fn name_end(line: &[u8], at: usize) -> usize
-    ensures { λ r. ⌜ r ≡ at + run isTagNameByte (drop at (now (line .entry))) ⌝ }
-{
-    let mut i = at;
-    while i < line.len() {
-        if is_tag_name_byte(line[i]) {
-            i += 1;
-        } else {
-            return i;
-        }
-    }
-    i
 }
 
 // Whether the line's flag lets kind 7 start. F6: interrupt refuses it exactly when not lazy.

@@ -12,5 +12,5 @@ pub mod Same
 pub mod Names
 pub mod Letters
 pub mod Lookup
-pub mod RawNames
+pub mod Members
 pub mod Prefix

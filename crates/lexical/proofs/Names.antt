@@ -1,4 +1,4 @@
--- The two tables of names. One computed test says of both that their bytes are lower case letters or digits, their names are in order and by letter, their
+-- The tables of names. One computed test says of each that their bytes are lower case letters or digits, their names are in order and by letter, their
 -- offsets rise and cut just the names, and these are few enough for a place to be a byte; the laws turn it into the rule at each entry. Then the lookup: one turn
 -- compares a name with the part between two offsets; and what the place that it gives says of the name.
 use mathlib.Core.Path.{_≡_, refl, sym, _∙_, ap}
@@ -11,7 +11,7 @@ use borrow.Author.Tests.{ltb-true, ltb-false, leb-true, ne-eqb}
 use lib.ListN.{length, getD, take, drop}
 use Rattle.lexical.specs.Byte.{within, isDigit, lower}
 use Rattle.lexical.specs.Text.{byte}
-use Rattle.lexical.specs.Name.{blockNames, rawNames, sameBytes, isMember, isBlockName, isRawName, unnamed, placeFrom, blockPlace, rawPlace, StandsAt, nameBytes, nameOffsets, cut, all, chain, rising, letterStarts, byLetter, LetterTable}
+use Rattle.lexical.specs.Name.{blockNames, rawNames, disallowedNames, sameBytes, isMember, isBlockName, isRawName, isDisallowedName, unnamed, placeFrom, blockPlace, rawPlace, StandsAt, nameBytes, nameOffsets, cut, all, chain, rising, letterStarts, byLetter, LetterTable}
 use Rattle.lexical.proofs.Cases.{and-left, and-right, split, clash}
 use Rattle.lexical.proofs.Suffix.{suffix-in, suffix-out}
 use Rattle.lexical.proofs.Same.{same-equal}
@@ -54,15 +54,18 @@ sound names =
     all isLowerByte (nameBytes names)
     && (chain before names && (rising (length (nameBytes names)) (nameOffsets 0 names) && (cuts names && (byLetter names && ltb (length names) unnamed))))
 
-pub tables-sound : (sound blockNames && sound rawNames) ≡ true
-unfolding sound sameNames sameBytes all chain rising cut byLetter nameBytes nameOffsets blockNames rawNames
+pub tables-sound : all sound (blockNames ∷ rawNames ∷ disallowedNames ∷ []) ≡ true
+unfolding sound sameNames sameBytes all chain rising cut byLetter nameBytes nameOffsets blockNames rawNames disallowedNames
 tables-sound = refl
 
 pub block-sound : sound blockNames ≡ true
-block-sound = and-left (sound blockNames) (sound rawNames) tables-sound
+block-sound = all-at [] sound (blockNames ∷ rawNames ∷ disallowedNames ∷ []) tables-sound 0 (omega arith)
 
 pub raw-sound : sound rawNames ≡ true
-raw-sound = and-right (sound blockNames) (sound rawNames) tables-sound
+raw-sound = all-at [] sound (blockNames ∷ rawNames ∷ disallowedNames ∷ []) tables-sound 1 (omega arith)
+
+pub disallowed-sound : sound disallowedNames ≡ true
+disallowed-sound = all-at [] sound (blockNames ∷ rawNames ∷ disallowedNames ∷ []) tables-sound 2 (omega arith)
 
 -- 01: 62 names and 4; 294 bytes, 63 offsets
 pub block-count : length blockNames ≡ 62
@@ -218,6 +221,10 @@ module _ (n : List ℕ) (place : ℕ) where
   pub raw-place-is : place ≡ rawPlace n → isRawName n ≡ not (eqb place unnamed)
   unfolding isRawName rawPlace
   raw-place-is e = place-tells rawNames raw-sound (map lower n) place e
+
+  pub disallowed-place-is : place ≡ placeFrom 0 (map lower n) disallowedNames → isDisallowedName n ≡ not (eqb place unnamed)
+  unfolding isDisallowedName
+  disallowed-place-is e = place-tells disallowedNames disallowed-sound (map lower n) place e
 
 -- ---- the name at the place is it
 -- in a list whose first name has the place k

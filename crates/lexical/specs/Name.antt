@@ -1,4 +1,4 @@
--- Names of tags, from CommonMark 0.31.2, section 4.6, and the CDATA prefix.
+-- Names of tags, from CommonMark 0.31.2, section 4.6, and the GitHub Flavored Markdown Spec, section 6.11; and the CDATA prefix.
 use Prim.Native.Nat.{ℕ, zero, suc, _+_, _-_, _<_, _≤_}
 use mathlib.Core.Path.{_≡_}
 use mathlib.Core.Bool.{Bool, true, false, _&&_, _||_}
@@ -79,6 +79,11 @@ blockNames =
 unfoldable pub rawNames : List (List ℕ)
 rawNames = bytes "pre" ∷ bytes "script" ∷ bytes "style" ∷ bytes "textarea" ∷ []
 
+-- 02, Ask 4; GitHub Flavored Markdown Spec 0.29, 6.11, Disallowed Raw HTML: the nine names, by their letters
+unfoldable pub disallowedNames : List (List ℕ)
+disallowedNames =
+    bytes "iframe" ∷ bytes "noembed" ∷ bytes "noframes" ∷ bytes "plaintext" ∷ bytes "script" ∷ bytes "style" ∷ bytes "textarea" ∷ bytes "title" ∷ bytes "xmp" ∷ []
+
 -- two byte strings are the same
 unfoldable pub sameBytes : List ℕ → List ℕ → Bool
 sameBytes [] [] = true
@@ -97,6 +102,10 @@ isBlockName n = isMember (map lower n) blockNames
 
 unfoldable pub isRawName : List ℕ → Bool
 isRawName n = isMember (map lower n) rawNames
+
+-- 02, Ask 4: in any letter case
+unfoldable pub isDisallowedName : List ℕ → Bool
+isDisallowedName n = isMember (map lower n) disallowedNames
 
 -- ---- 02, Ask 1: which name it is
 -- no place: no list has as many names

@@ -7,7 +7,7 @@ use lib.Dec.{eqb}
 use lib.ListN.{getD}
 use Rattle.lexical.specs.Text.{byte, bytes, run}
 use Rattle.lexical.specs.Line.{lineEnding, endsLine, lineEndings, lines, isBlank}
-use Rattle.lexical.specs.Name.{all, chain, blockNames, rawNames, sameBytes, isMember, isBlockName, isRawName, placeFrom, blockPlace, rawPlace, nameBytes, beginningWith, namesBelow, startsFrom, letterStarts, byLetter}
+use Rattle.lexical.specs.Name.{all, chain, blockNames, rawNames, disallowedNames, sameBytes, isMember, isBlockName, isRawName, isDisallowedName, placeFrom, blockPlace, rawPlace, nameBytes, beginningWith, namesBelow, startsFrom, letterStarts, byLetter}
 use Rattle.lexical.specs.Point.{point, tabReadings, tabRead, Action, lastReading, earlierReading, skipped, noByte, actionAt, moved}
 use Rattle.lexical.specs.declared.event.Point.{Point}
 
@@ -28,7 +28,7 @@ abbrev pub readAs : ℕ → List ℕ → List ℕ → Bool
 readAs column s t = sameBytes (reads 5 (point 1 column 0 0) s) t
 
 unfoldable pub rows : List Bool
-unfolding tabReadings tabRead actionAt moved sameBytes isMember blockNames rawNames isBlockName isRawName placeFrom blockPlace rawPlace nameBytes beginningWith namesBelow startsFrom letterStarts byLetter all chain lineEnding endsLine lineEndings lines isBlank run
+unfolding tabReadings tabRead actionAt moved sameBytes isMember blockNames rawNames disallowedNames isBlockName isRawName isDisallowedName placeFrom blockPlace rawPlace nameBytes beginningWith namesBelow startsFrom letterStarts byLetter all chain lineEnding endsLine lineEndings lines isBlank run
 rows =
     -- (P) a tab at column 1 has four readings, at column 4 one
     eqb (tabReadings 1) 4 ∷
@@ -53,6 +53,12 @@ rows =
     eqb (rawPlace (bytes "textarea")) 3 ∷
     eqb (blockPlace (bytes "pre")) 255 ∷
     eqb (rawPlace (bytes "div")) 255 ∷
+    -- 02, Ask 4: a name of GitHub's list, in any letter case, and none that is longer or of another list
+    isDisallowedName (bytes "nOeMbEd") ∷
+    isDisallowedName (bytes "TITLE") ∷
+    not (isDisallowedName (bytes "titles")) ∷
+    not (isDisallowedName (bytes "pre")) ∷
+    not (isDisallowedName []) ∷
     -- 02, Ask 3: the names of a letter, of the last that has any, and of one that has none
     sameBytes (nameBytes (beginningWith (byte "o") blockNames)) (bytes "oloptgroupoption") ∷
     sameBytes (nameBytes (beginningWith (byte "u") blockNames)) (bytes "ul") ∷

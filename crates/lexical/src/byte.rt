@@ -1,7 +1,8 @@
-// Byte classes. Each is one expression without a branch, in the order of its definition.
+// Byte classes. Each is one expression without a branch, in the order of its definition. Behind them what stands at an index.
 ghost use mathlib.Core.Path.{_≡_};
+ghost use Prim.Native.Nat.{_+_};
 ghost use lib.ListN.{drop};
-ghost use Rattle.lexical.specs.Text.{first};
+ghost use Rattle.lexical.specs.Text.{first, run};
 ghost use Rattle.lexical.specs.Byte.{isLetter, isDigit, isTagNameByte, isAttributeNameStart, isAttributeNameByte, isSpaceOrTab, isLineEndingByte, isWhitespace, isQuote, isValueExcluded, isTagBreak, isNameBreak, isNameStart, isValueEnd, lower};
 
 // What `peek` answers past the end.
@@ -135,4 +136,19 @@ pub fn is_name_break(bytes: &[u8], index: usize) -> bool
         return true;
     }
     is_tag_break(bytes[index])
+}
+
+// Past the tag name that begins at an index.
+pub fn name_end(bytes: &[u8], index: usize) -> usize
+    ensures { λ r. ⌜ r ≡ index + run isTagNameByte (drop index (now (bytes .entry))) ⌝ }
+{
+    let mut i = index;
+    while i < bytes.len() {
+        if is_tag_name_byte(bytes[i]) {
+            i += 1;
+        } else {
+            return i;
+        }
+    }
+    i
 }

@@ -1,4 +1,4 @@
-// constant.rs: names, the CDATA prefix and sizes.
+// constant.rs: names, the CDATA prefix and sizes; and the names of GitHub's tag filter.
 ghost use mathlib.Core.Path.{_≡_};
 ghost use mathlib.Core.List.{map};
 ghost use Prim.Native.Nat.{_+_, _<_, _≤_};
@@ -7,7 +7,7 @@ ghost use lib.Dec.{ltb};
 ghost use lib.ListN.{length, drop};
 ghost use Rattle.lexical.specs.Text.{limit};
 ghost use Rattle.lexical.specs.Byte.{lower};
-ghost use Rattle.lexical.specs.Name.{sameBytes, unnamed, placeFrom, blockPlace, rawPlace, blockNames, rawNames, nameBytes, nameOffsets, cut, rising, letters, letterStarts, GoesTo, LetterTable, cdataPrefix, cdataLetters};
+ghost use Rattle.lexical.specs.Name.{sameBytes, unnamed, placeFrom, blockPlace, rawPlace, isDisallowedName, blockNames, rawNames, disallowedNames, nameBytes, nameOffsets, cut, rising, letters, letterStarts, GoesTo, LetterTable, cdataPrefix, cdataLetters};
 use crate::byte::to_ascii_lowercase;
 
 // The names that open an HTML block of kind 6, end to end, and where each begins; the last offset is where the last name ends.
@@ -85,7 +85,12 @@ const HTML_RAW_NAMES: [u8; 22] = *b"prescriptstyletextarea";
 
 const HTML_RAW_OFFSETS: [u16; 5] = [0, 3, 9, 14, 22];
 
-// The places where the names of each letter begin in either list, from `a` on, and last where those of `z` end.
+// The names that GitHub's tag filter replaces, in the same form.
+const DISALLOWED_NAMES: [u8; 57] = *b"iframenoembednoframesplaintextscriptstyletextareatitlexmp";
+
+const DISALLOWED_OFFSETS: [u16; 10] = [0, 6, 13, 21, 30, 36, 41, 49, 54, 57];
+
+// The places where the names of each letter begin in each list, from `a` on, and last where those of `z` end.
 const HTML_BLOCK_STARTS: [u8; 27] = [
     0,
     3,
@@ -144,6 +149,36 @@ const HTML_RAW_STARTS: [u8; 27] = [
     4,
     4,
     4,
+];
+
+const DISALLOWED_STARTS: [u8; 27] = [
+    0,
+    0,
+    0,
+    0,
+    0,
+    0,
+    0,
+    0,
+    0,
+    1,
+    1,
+    1,
+    1,
+    1,
+    3,
+    3,
+    4,
+    4,
+    4,
+    6,
+    8,
+    8,
+    8,
+    8,
+    9,
+    9,
+    9,
 ];
 
 // No places.
@@ -275,6 +310,24 @@ fn raw_starts() -> [u8; 27]
     HTML_RAW_STARTS
 }
 
+fn disallowed_names() -> [u8; 57]
+    ensures { λ r. ⌜ r ≡ nameBytes disallowedNames ⌝ }
+{
+    DISALLOWED_NAMES
+}
+
+fn disallowed_offsets() -> [u16; 10]
+    ensures { λ r. ⌜ r ≡ nameOffsets 0 disallowedNames ⌝ }
+{
+    DISALLOWED_OFFSETS
+}
+
+fn disallowed_starts() -> [u8; 27]
+    ensures { λ r. ⌜ r ≡ letterStarts disallowedNames ⌝ }
+{
+    DISALLOWED_STARTS
+}
+
 // The place of the bytes among the 62 block names, letter case ignored.
 pub fn block_place(name: &[u8]) -> u8
     ensures { λ r. ⌜ r ≡ blockPlace (now (name .entry)) ⌝ }
@@ -293,6 +346,16 @@ pub fn raw_place(name: &[u8]) -> u8
     let offsets = raw_offsets();
     let starts = raw_starts();
     lookup(name, &table, &offsets, &starts)
+}
+
+// Whether the bytes are one of the nine names of GitHub's tag filter, letter case ignored.
+pub fn is_disallowed_name(name: &[u8]) -> bool
+    ensures { λ r. ⌜ r ≡ isDisallowedName (now (name .entry)) ⌝ }
+{
+    let table = disallowed_names();
+    let offsets = disallowed_offsets();
+    let starts = disallowed_starts();
+    lookup(name, &table, &offsets, &starts) != NO_NAME
 }
 
 fn cdata_prefix() -> [u8; 6]

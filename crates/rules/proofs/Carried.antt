@@ -11,7 +11,7 @@ use Rattle.lexical.specs.Byte.{isLetter}
 use Rattle.lexical.specs.Name.{isBlockName, isRawName}
 use Rattle.lexical.proofs.Cases.{split, clash, and-left, and-right}
 use Rattle.lexical.proofs.Names.{block-stands, raw-stands}
-use Rattle.lexical.proofs.RawNames.{block-first, raw-first}
+use Rattle.lexical.proofs.Members.{block-first, raw-first}
 use Rattle.rules.specs.Search.{choose, begins}
 use Rattle.rules.specs.Lines.{Line}
 use Rattle.rules.specs.Block.{nameOf, afterName, nameEnds, startsRaw, basicName, startsBasic, startsComplete, mayStart, kindAt, indentation, kindOf, tagName, lineName, placeOf}

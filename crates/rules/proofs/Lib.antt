@@ -6,6 +6,7 @@ pub mod Comment
 pub mod Past
 pub mod Prefix
 pub mod Refusals
+pub mod Outputs
 pub mod Cut
 pub mod LineLaws
 pub mod BlockLaws

@@ -1,4 +1,4 @@
--- Corners of 01 that its rows marked (P) leave out: each row refuses a definition that is a little wrong. Proved together by one computed fact.
+-- Corners of 01 that its rows marked (P) leave out, and of 02: each row refuses a definition that is a little wrong. Proved together by one computed fact.
 use Prim.Native.Nat.{ℕ, _+_}
 use mathlib.Core.Path.{_≡_, refl}
 use mathlib.Core.Bool.{Bool, true, false, _&&_}
@@ -11,6 +11,8 @@ use Rattle.rules.specs.Reading.{crate, standard}
 use Rattle.rules.specs.Refusal.{refusal, tooLong, inlineRefusal, blockRefusal, bulletinRefusal}
 use Rattle.rules.specs.Scan.{foundInline, noInline, refusedInline, inlineScan, found, foundBlock, noBlock, refusedBlock, blockScan}
 use Rattle.rules.specs.Withhold.{shown, Shown, shows, refusedShown, withhold, written}
+use Rattle.rules.specs.Output.{Wrote, wrote, refusedWrite}
+use Rattle.rules.specs.Filter.{filtered, filter}
 use Rattle.rules.specs.Rows.{sameInline, sameBlock, inlineRow, blockRow}
 use Rattle.rules.specs.Computing.{computing}
 
@@ -120,8 +122,43 @@ outputs =
     ∷ sameBytes (written 7 (bytes "ac") (bytes "xyz")) (bytes "xyz")
     ∷ []
 
-pub corners-hold : all (λ b. b) (texts ++ (blocks ++ (names ++ (closers ++ (refusals ++ outputs))))) ≡ true
-unfolding computing texts blocks names closers refusals outputs
+-- 02, Ask 4: two answers of an entry that writes are the same
+abbrev pub sameWrote : Wrote → Wrote → Bool
+sameWrote (wrote n) (wrote m) = eqb n m
+sameWrote (wrote n) (refusedWrite k) = false
+sameWrote (refusedWrite k) (wrote m) = false
+sameWrote (refusedWrite k) (refusedWrite j) = eqb k j
+
+abbrev pub filterRow : List ℕ → List ℕ → List ℕ → Bool
+filterRow text flags output = sameBytes (filtered crate text flags) output
+
+unfoldable pub filters : List Bool
+filters =
+    -- the example of the GitHub Flavored Markdown Spec, 6.11
+    filterRow (bytes "<strong> <title> <style> <em>\n\n<blockquote>\n  <xmp> is disallowed.  <XMP> is also disallowed.\n</blockquote>\n")
+    (0 ∷ 0 ∷ 0 ∷ 0 ∷ 0 ∷ 0 ∷ [])
+    (bytes "<strong> &lt;title> &lt;style> <em>\n\n<blockquote>\n  &lt;xmp> is disallowed.  &lt;XMP> is also disallowed.\n</blockquote>\n")
+    -- the end of the bulletin does not follow a name; a line ending beyond the stop does
+    ∷ filterRow (bytes "<script") (0 ∷ []) (bytes "<script")
+    ∷ filterRow (bytes "<div>\n<iframe\n\nx") (0 ∷ 0 ∷ 0 ∷ 0 ∷ []) (bytes "<div>\n&lt;iframe\n\nx")
+    ∷ filterRow (bytes "<noembed\r\n") (0 ∷ 0 ∷ []) (bytes "<noembed\r\n")
+    ∷ filterRow (bytes "<noframes\r\n") (0 ∷ 0 ∷ []) (bytes "&lt;noframes\r\n")
+    -- of a block every place counts, of an inline piece the first byte
+    ∷ filterRow (bytes "<!-- <xmp> -->") (0 ∷ []) (bytes "<!-- &lt;xmp> -->")
+    ∷ filterRow (bytes "a <!-- <xmp> --> <xmp>") (0 ∷ []) (bytes "a <!-- <xmp> --> &lt;xmp>")
+    -- `/>` follows a name, `/` alone does not; closing tags; a space, a tab; a longer name
+    ∷ filterRow (bytes "<div><xmp/><xmp/ ></XMP ><PlainText\t<xmp-a></xmpa>") (0 ∷ []) (bytes "<div>&lt;xmp/><xmp/ >&lt;/XMP >&lt;PlainText\t<xmp-a></xmpa>")
+    -- what is no HTML stays
+    ∷ filterRow (bytes "< xmp> <xmp <b> &lt;") (0 ∷ []) (bytes "< xmp> <xmp <b> &lt;")
+    -- 7 comes last, by the length of the output
+    ∷ sameWrote (filter crate (bytes "a<xmp>") (4 ∷ 4 ∷ []) 1) (refusedWrite 2)
+    ∷ sameWrote (filter crate (bytes "a<xmp>") (4 ∷ []) 1) (refusedWrite 3)
+    ∷ sameWrote (filter crate (bytes "a<xmp>") (3 ∷ []) 8) (refusedWrite 7)
+    ∷ sameWrote (filter crate (bytes "a<xmp>") (3 ∷ []) 9) (wrote 9)
+    ∷ []
+
+pub corners-hold : all (λ b. b) (texts ++ (blocks ++ (names ++ (closers ++ (refusals ++ (outputs ++ filters)))))) ≡ true
+unfolding computing texts blocks names closers refusals outputs filters
 corners-hold = refl
 
 -- 1 comes before all others, from the first byte over the limit on

@@ -10,6 +10,8 @@ pub mod Carried
 pub mod Closers
 pub mod Trace
 pub mod Withhold
+pub mod Output
+pub mod Filter
 pub mod Rows
 pub mod Changes
 pub mod Examples

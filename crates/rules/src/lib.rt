@@ -1,8 +1,8 @@
-// Which of the eight changes to CommonMark 0.31.2 a reading makes. All on is the reading of the Rust crate; all off is the standard to the letter.
-// The definitions of the readings are in specs/.
+// What the code shares with the definitions, which are in specs/.
 ghost use mathlib.Core.Path.{_≡_};
 ghost use Rattle.rules.specs.Reading.{crate as ofCrate};
 
+// Which of the eight changes to CommonMark 0.31.2 a reading makes. All on is the reading of the Rust crate; all off is the standard to the letter.
 pub struct Rules {
     // Kind 5: the closer is `>` behind brackets `]` that are even in number, two or more; all that stand there in a row are counted.
     pub f1: bool,
@@ -36,4 +36,13 @@ pub fn crate_rules() -> Rules
         t1: true,
         t2: true,
     }
+}
+
+// 01, Where each refusal is met: the output buffer is shorter than the output needs.
+pub const NO_ROOM: u8 = 7;
+
+// The length of what an entry wrote, or a refusal.
+pub enum Output {
+    Written { length: usize },
+    Refused { refusal: u8 },
 }

@@ -9,14 +9,12 @@ ghost use Rattle.screen.specs.Answer.{shownOf};
 ghost use Rattle.screen.specs.Shows.{Shows};
 use flow::scan::bulletin_refusal;
 use lexical::copy::copy_part;
+use rules::NO_ROOM;
 use rules::Rules;
 use rules::crate_rules;
 use walk::pieces::Next;
 use walk::pieces::at_line;
 use walk::pieces::next_piece;
-
-// 01, Where each refusal is met.
-const NO_ROOM: u8 = 7;
 
 // The shown length and the number of pieces withheld, or a refusal.
 pub enum Withheld {

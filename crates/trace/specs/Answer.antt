@@ -1,5 +1,4 @@
 -- What the answers of this crate say, by 01's numbers and values for each case.
-use mathlib.Core.Path.{_≡_}
 use Prim.Native.Nat.{ℕ}
 use mathlib.Core.Bool.{_||_}
 use mathlib.Core.List.{List}
@@ -11,9 +10,8 @@ use Rattle.rules.specs.Search.{choose}
 use Rattle.rules.specs.Refusal.{inlineRefusal, blockRefusal, outputRefusal}
 use Rattle.rules.specs.Scan.{inlineScan, blockScan}
 use Rattle.rules.specs.Withhold.{written}
+use Rattle.rules.specs.Output.{Wrote, writing}
 use Rattle.rules.specs.Trace.{Record as Read, eventRecord, lastRecord, refusedRecord, recordLength, inlineTrace, blockTrace}
-use Rattle.trace.specs.declared.tracer.Traced.{Traced}
-use Rattle.trace.specs.declared.tracer.Traced.the-variants.{Length, Refused as NotTraced}
 use Rattle.trace.specs.declared.reader.Record.{Record}
 use Rattle.trace.specs.declared.reader.Record.the-variants.{Event, Last, Refused}
 
@@ -23,25 +21,12 @@ recordOf (Event kind line column index vs) = eventRecord kind line column index 
 recordOf (Last kind stop value) = lastRecord kind stop value
 recordOf (Refused refusal) = refusedRecord refusal
 
--- the length of a trace, or the number of a refusal
-pub data TraceAnswer : Type 0 where
-  traced : ℕ → TraceAnswer
-  refusedTrace : ℕ → TraceAnswer
-
-abbrev pub tracedOf : Traced → TraceAnswer
-tracedOf (Length n) = traced n
-tracedOf (NotTraced refusal) = refusedTrace refusal
-
--- the refusals of a scan in order, then 7 where the buffer is shorter than the trace; else the length
-unfoldable pub traceAnswer : ℕ → List ℕ → TraceAnswer
-traceAnswer refusal trace = choose (eqb refusal 0) (λ _. traced (length trace)) (λ _. refusedTrace refusal)
-
--- of an inline scan with all eight changes; room is the length of the output buffer
+-- of an inline scan with all eight changes: the scan's refusals in order, then 7 where the buffer, whose length is room, is shorter than the trace
 unfoldable pub inlineTraceRefusal : List ℕ → ℕ → ℕ → ℕ → ℕ
 inlineTraceRefusal text i k room = outputRefusal (inlineRefusal text i k) room (inlineTrace text i (inlineScan ofCrate text i k))
 
-unfoldable pub inlineTraced : List ℕ → ℕ → ℕ → ℕ → TraceAnswer
-inlineTraced text i k room = traceAnswer (inlineTraceRefusal text i k room) (inlineTrace text i (inlineScan ofCrate text i k))
+unfoldable pub inlineTraced : List ℕ → ℕ → ℕ → ℕ → Wrote
+inlineTraced text i k room = writing (inlineTraceRefusal text i k room) (inlineTrace text i (inlineScan ofCrate text i k))
 
 -- the buffer afterwards: the trace and the old bytes past it, or on a refusal the old bytes
 unfoldable pub inlineBuffer : List ℕ → ℕ → ℕ → List ℕ → List ℕ
@@ -51,8 +36,8 @@ inlineBuffer text i k old = written (inlineTraceRefusal text i k (length old)) (
 unfoldable pub blockTraceRefusal : List ℕ → List ℕ → ℕ → ℕ → ℕ
 blockTraceRefusal text flags i room = outputRefusal (blockRefusal text flags i) room (blockTrace text i (blockScan ofCrate text flags i))
 
-unfoldable pub blockTraced : List ℕ → List ℕ → ℕ → ℕ → TraceAnswer
-blockTraced text flags i room = traceAnswer (blockTraceRefusal text flags i room) (blockTrace text i (blockScan ofCrate text flags i))
+unfoldable pub blockTraced : List ℕ → List ℕ → ℕ → ℕ → Wrote
+blockTraced text flags i room = writing (blockTraceRefusal text flags i room) (blockTrace text i (blockScan ofCrate text flags i))
 
 unfoldable pub blockBuffer : List ℕ → List ℕ → ℕ → List ℕ → List ℕ
 blockBuffer text flags i old = written (blockTraceRefusal text flags i (length old)) (blockTrace text i (blockScan ofCrate text flags i)) old
@@ -63,8 +48,3 @@ flawOf w s =
     choose (eqb (length s) 0) (λ _. 9)
     (λ _. choose (eqb (first s) 0 || ltb 14 (first s)) (λ _. 8)
     (λ _. choose (ltb (length s) (recordLength w (first s))) (λ _. 9) (λ _. 0)))
-
--- what an entry that traces answers and leaves in the buffer
-pub record Traces (refusal : ℕ) (trace old : List ℕ) (r : Traced) (new : List ℕ) : Type 0 where
-  pub answer : tracedOf r ≡ traceAnswer refusal trace
-  pub buffer : new ≡ written refusal trace old

@@ -6,7 +6,8 @@ ghost use lib.ListN.{length};
 ghost use Rattle.lexical.specs.Text.{limit};
 ghost use Rattle.rules.specs.Refusal.{outputRefusal};
 ghost use Rattle.rules.specs.Trace.{width, taken, endsEmpty, flowExit, eventBytes, lastBytes, flowTrace};
-ghost use Rattle.trace.specs.Answer.{Traces, tracedOf, blockTraced, blockBuffer};
+ghost use Rattle.rules.specs.Output.{outputOf, Writes};
+ghost use Rattle.trace.specs.Answer.{blockTraced, blockBuffer};
 ghost use Rattle.lexical.specs.Buffer.{Written};
 ghost use Rattle.trace.specs.Writing.{eventLength, lastLength};
 ghost use Rattle.trace.specs.Walk.{flowPiece, penStart, Marked};
@@ -17,8 +18,6 @@ use crate::events::mark;
 use crate::events::mark_pair;
 use crate::events::mark_rest;
 use crate::events::mark_some;
-use crate::tracer::NO_ROOM;
-use crate::tracer::Traced;
 use crate::tracer::trace_last;
 use crate::writer::EVENT_LENGTH;
 use crate::writer::LAST_LENGTH;
@@ -32,8 +31,10 @@ use lexical::event::Point;
 use lexical::line::line_end;
 use lexical::line::line_ending;
 use lexical::slice::from_indices;
+use rules::NO_ROOM;
+use rules::Output;
 
-// 01, Traces: the kind of a block's enter, and of the last record of its trace.
+// 01, Writes: the kind of a block's enter, and of the last record of its trace.
 const HTML_FLOW: u8 = 1;
 
 const LAST_FLOW: u8 = 14;
@@ -126,23 +127,23 @@ fn trace_flow(
     stop: usize,
     closed: bool,
     out: &mut [u8],
-) -> Traced
+) -> Output
     requires { ⌜ (length (now text) ≤ limit) × (index ≤ stop) × (stop ≤ length (now text)) ⌝ }
-    ensures { λ r. ⌜ Traces (outputRefusal 0 (length (now (out .entry))) (flowTrace (now (text .entry)) index kind stop closed)) (flowTrace (now (text .entry)) index kind stop closed) (now (out .entry)) r (now (out .exit)) ⌝ }
+    ensures { λ r. ⌜ Writes (outputRefusal 0 (length (now (out .entry))) (flowTrace (now (text .entry)) index kind stop closed)) (flowTrace (now (text .entry)) index kind stop closed) (now (out .entry)) r (now (out .exit)) ⌝ }
 {
     let front = from_indices(text, 0, stop);
     let length = flow_length(front, index);
     if out.len() < length {
-        return Traced::Refused { refusal: NO_ROOM };
+        return Output::Refused { refusal: NO_ROOM };
     }
     let exit = flow_exit(text, index, kind, stop, closed);
     write_flow(text, front, index, exit, stop, kind, out);
-    Traced::Length(length)
+    Output::Written { length }
 }
 
 // The trace of a block scan.
-pub fn block_trace(bulletin: &[u8], flags: &[u8], index: usize, out: &mut [u8]) -> Traced
-    ensures { λ r. ⌜ tracedOf r ≡ blockTraced (now (bulletin .entry)) (now (flags .entry)) index (length (now (out .entry))) ⌝ }
+pub fn block_trace(bulletin: &[u8], flags: &[u8], index: usize, out: &mut [u8]) -> Output
+    ensures { λ r. ⌜ outputOf r ≡ blockTraced (now (bulletin .entry)) (now (flags .entry)) index (length (now (out .entry))) ⌝ }
     ensures { λ r. ⌜ now (out .exit) ≡ blockBuffer (now (bulletin .entry)) (now (flags .entry)) index (now (out .entry)) ⌝ }
 {
     match block_scan(bulletin, flags, index) {
@@ -158,6 +159,6 @@ pub fn block_trace(bulletin: &[u8], flags: &[u8], index: usize, out: &mut [u8]) 
             )
         }
         Block::Missing => trace_last(LAST_FLOW, index, 0, out),
-        Block::Refused { refusal } => Traced::Refused { refusal },
+        Block::Refused { refusal } => Output::Refused { refusal },
     }
 }

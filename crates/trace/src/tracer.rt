@@ -7,7 +7,8 @@ ghost use Rattle.lexical.specs.Text.{limit};
 ghost use Rattle.rules.specs.Refusal.{outputRefusal};
 ghost use Rattle.rules.specs.Scan.{foundInline};
 ghost use Rattle.rules.specs.Trace.{width, eventBytes, lastBytes, inlineTrace};
-ghost use Rattle.trace.specs.Answer.{tracedOf, inlineTraced, inlineBuffer, Traces};
+ghost use Rattle.rules.specs.Output.{outputOf, Writes};
+ghost use Rattle.trace.specs.Answer.{inlineTraced, inlineBuffer};
 ghost use Rattle.lexical.specs.Buffer.{Written};
 ghost use Rattle.trace.specs.Writing.{eventLength, lastLength};
 ghost use Rattle.trace.specs.Walk.{textPiece, penStart, Marked};
@@ -25,20 +26,13 @@ use html::tokenizer::Inline;
 use lexical::event::Point;
 use lexical::line::line_end;
 use lexical::slice::from_indices;
+use rules::NO_ROOM;
+use rules::Output;
 
-// 01, Traces: the kind of an inline piece's enter, and of the last record of its trace.
+// 01, Writes: the kind of an inline piece's enter, and of the last record of its trace.
 const HTML_TEXT: u8 = 7;
 
 const LAST_TEXT: u8 = 13;
-
-// 01, Where each refusal is met.
-pub(crate) const NO_ROOM: u8 = 7;
-
-// The length of a trace, or the refusal of it.
-pub enum Traced {
-    Length(usize),
-    Refused { refusal: u8 },
-}
 
 // The length of the trace of a piece that begins at an index of the text before its stop.
 fn text_length(front: &[u8], index: usize) -> usize
@@ -77,38 +71,40 @@ fn write_text(text: &[u8], front: &[u8], index: usize, stop: usize, carry: u8, o
 }
 
 // The trace of a piece, or the refusal of it.
-fn trace_text(text: &[u8], index: usize, stop: usize, carry: u8, out: &mut [u8]) -> Traced
+fn trace_text(text: &[u8], index: usize, stop: usize, carry: u8, out: &mut [u8]) -> Output
     requires { ⌜ (length (now text) ≤ limit) × (index ≤ stop) × (stop ≤ length (now text)) ⌝ }
-    ensures { λ r. ⌜ Traces (outputRefusal 0 (length (now (out .entry))) (inlineTrace (now (text .entry)) index (foundInline stop carry))) (inlineTrace (now (text .entry)) index (foundInline stop carry)) (now (out .entry)) r (now (out .exit)) ⌝ }
+    ensures { λ r. ⌜ Writes (outputRefusal 0 (length (now (out .entry))) (inlineTrace (now (text .entry)) index (foundInline stop carry))) (inlineTrace (now (text .entry)) index (foundInline stop carry)) (now (out .entry)) r (now (out .exit)) ⌝ }
 {
     let front = from_indices(text, 0, stop);
     let length = text_length(front, index);
     if out.len() < length {
-        return Traced::Refused { refusal: NO_ROOM };
+        return Output::Refused { refusal: NO_ROOM };
     }
     write_text(text, front, index, stop, carry, out);
-    Traced::Length(length)
+    Output::Written { length }
 }
 
 // The trace of a scan that finds nothing, or the refusal of it.
-pub(crate) fn trace_last(kind: u8, index: usize, value: u8, out: &mut [u8]) -> Traced
-    ensures { λ r. ⌜ Traces (outputRefusal 0 (length (now (out .entry))) (lastBytes width kind index value)) (lastBytes width kind index value) (now (out .entry)) r (now (out .exit)) ⌝ }
+pub(crate) fn trace_last(kind: u8, index: usize, value: u8, out: &mut [u8]) -> Output
+    ensures { λ r. ⌜ Writes (outputRefusal 0 (length (now (out .entry))) (lastBytes width kind index value)) (lastBytes width kind index value) (now (out .entry)) r (now (out .exit)) ⌝ }
 {
     if out.len() < LAST_LENGTH {
-        return Traced::Refused { refusal: NO_ROOM };
+        return Output::Refused { refusal: NO_ROOM };
     }
     write_last(out, 0, kind, index, value);
-    Traced::Length(LAST_LENGTH)
+    Output::Written {
+        length: LAST_LENGTH,
+    }
 }
 
 // The trace of an inline scan.
-pub fn inline_trace(text: &[u8], index: usize, carry: u8, out: &mut [u8]) -> Traced
-    ensures { λ r. ⌜ tracedOf r ≡ inlineTraced (now (text .entry)) index carry (length (now (out .entry))) ⌝ }
+pub fn inline_trace(text: &[u8], index: usize, carry: u8, out: &mut [u8]) -> Output
+    ensures { λ r. ⌜ outputOf r ≡ inlineTraced (now (text .entry)) index carry (length (now (out .entry))) ⌝ }
     ensures { λ r. ⌜ now (out .exit) ≡ inlineBuffer (now (text .entry)) index carry (now (out .entry)) ⌝ }
 {
     match inline_scan(text, index, carry) {
         Inline::Found { stop, carry: left } => trace_text(text, index, stop, left, out),
         Inline::Missing { carry: left } => trace_last(LAST_TEXT, index, left, out),
-        Inline::Refused { refusal, carry: _ } => Traced::Refused { refusal },
+        Inline::Refused { refusal, carry: _ } => Output::Refused { refusal },
     }
 }

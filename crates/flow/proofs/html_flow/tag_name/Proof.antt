@@ -5,7 +5,8 @@ use lib.Dec.{eqb}
 use borrow.Author.Tests.{not-true, not-false, ne-eqb}
 use Rattle.lexical.specs.Name.{blockPlace, rawPlace}
 use Rattle.lexical.proofs.Names.{block-place-is, raw-place-is}
-use Rattle.flow.proofs.NameSteps.{name-cut, no-break, raw-name, block-name, other-name}
+use Rattle.rules.proofs.NameLaws.{name-cut}
+use Rattle.flow.proofs.NameSteps.{no-break, raw-name, block-name, other-name}
 use borrow.Author.Needs.{needs}
 use Rattle.flow.proofs.html_flow.tag_name.Statement.{statement}
 use Rattle.flow.proofs.html_flow.tag_name.Tie as tie

@@ -6,7 +6,8 @@ use lib.ListN.{length}
 use Rattle.rules.specs.Trace.{width, eventBytes, lastBytes}
 use Rattle.trace.specs.Walk.{flowPiece}
 use Rattle.lexical.proofs.Stores.{written-as}
-use Rattle.trace.proofs.Outputs.{not-traced, is-traced}
+use Rattle.rules.proofs.Outputs.{not-written}
+use Rattle.trace.proofs.Outputs.{is-traced}
 use Rattle.trace.proofs.Empty.{exit-from, exit-to}
 use Rattle.trace.proofs.Pieces.{front-length, flow-trace, flow-size, flow-trace-length}
 use borrow.Author.Needs.{needs}
@@ -28,7 +29,7 @@ returns c =
     let a = c .before .before .before .before .before .args in
     let pre = c .before .before .before .before .before .pre in
     let n = c .before .flow-length .result in
-    not-traced _ _ (omega (arith, c .if1 .taken, flow-trace-length (a .text .now) (c .before .before .from-indices .result .now) (a .index) (a .kind) (a .stop) (a .closed) (pre .1) (pre .2) (c .before .before .from-indices .ensures) n (c .before .flow-length .ensures)))
+    not-written _ _ (omega (arith, c .if1 .taken, flow-trace-length (a .text .now) (c .before .before .from-indices .result .now) (a .index) (a .kind) (a .stop) (a .closed) (pre .1) (pre .2) (c .before .before .from-indices .ensures) n (c .before .flow-length .ensures)))
 
 flow-exit-requires : tie.Need-flow-exit-requires
 flow-exit-requires c κs = search needs

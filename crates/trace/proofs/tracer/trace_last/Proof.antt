@@ -3,13 +3,14 @@ use native.Mathlib.Omega.{arith}
 use Rattle.rules.specs.Trace.{width}
 use Rattle.trace.specs.Writing.{lastLength}
 use Rattle.trace.proofs.Stores.{last-length}
-use Rattle.trace.proofs.Outputs.{not-traced, is-traced}
+use Rattle.rules.proofs.Outputs.{not-written}
+use Rattle.trace.proofs.Outputs.{is-traced}
 use borrow.Author.Needs.{needs}
 use Rattle.trace.proofs.tracer.trace_last.Statement.{statement}
 use Rattle.trace.proofs.tracer.trace_last.Tie as tie
 
 returns : tie.Need-returns
-returns c = let a = c .before .before .args in not-traced _ _ (omega (arith, c .if1 .taken, last-length width (a .kind) (a .index) (a .value)))
+returns c = let a = c .before .before .args in not-written _ _ (omega (arith, c .if1 .taken, last-length width (a .kind) (a .index) (a .value)))
 
 write-last-requires : tie.Need-write-last-requires
 write-last-requires c κs = search needs

@@ -1,7 +1,8 @@
 -- The length that was counted is that of the trace, so the check against the buffer is that of 7, and behind it there is room.
 use native.Mathlib.Omega.{arith}
 use Rattle.lexical.proofs.Stores.{written-as}
-use Rattle.trace.proofs.Outputs.{not-traced, is-traced}
+use Rattle.rules.proofs.Outputs.{not-written}
+use Rattle.trace.proofs.Outputs.{is-traced}
 use Rattle.trace.proofs.Pieces.{front-length, text-trace, text-size, text-trace-length}
 use borrow.Author.Needs.{needs}
 use Rattle.trace.proofs.tracer.trace_text.Statement.{statement}
@@ -22,7 +23,7 @@ returns c =
     let a = c .before .before .before .before .before .args in
     let pre = c .before .before .before .before .before .pre in
     let n = c .before .text-length .result in
-    not-traced _ _ (omega (arith, c .if1 .taken, text-trace-length (a .text .now) (c .before .before .from-indices .result .now) (a .index) (a .stop) (a .carry) (pre .1) (pre .2) (c .before .before .from-indices .ensures) n (c .before .text-length .ensures)))
+    not-written _ _ (omega (arith, c .if1 .taken, text-trace-length (a .text .now) (c .before .before .from-indices .result .now) (a .index) (a .stop) (a .carry) (pre .1) (pre .2) (c .before .before .from-indices .ensures) n (c .before .text-length .ensures)))
 
 write-text-requires : tie.Need-write-text-requires
 write-text-requires c κs =

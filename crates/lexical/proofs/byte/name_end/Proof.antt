@@ -1,17 +1,17 @@
 use mathlib.Core.Path.{_≡_, refl, sym, _∙_}
 use Prim.Native.Nat.{_-_}
 use lib.ListN.{length}
 use Rattle.lexical.specs.Byte.{isTagNameByte}
 use Rattle.lexical.proofs.Run.{runEnd, run-on, run-stop, run-over}
 use borrow.Author.Needs.{needs}
-use Rattle.flow.proofs.html_flow.name_end.Statement.{statement}
-use Rattle.flow.proofs.html_flow.name_end.Tie as tie
+use Rattle.lexical.proofs.byte.name_end.Statement.{statement}
+use Rattle.lexical.proofs.byte.name_end.Tie as tie
 
 abbrev Inv-loop : tie.InvT-loop
-Inv-loop line at i₀ i = runEnd isTagNameByte line i ≡ runEnd isTagNameByte line at
+Inv-loop bytes index i₀ i = runEnd isTagNameByte bytes i ≡ runEnd isTagNameByte bytes index
 
 abbrev μ-loop : tie.MeasureT-loop
-μ-loop line at i₀ i = length line - i
+μ-loop bytes index i₀ i = length bytes - i
 
 loop-holds : tie.Need-loop-holds Inv-loop μ-loop
 loop-holds c = refl

@@ -1,4 +1,5 @@
--- Raw names, letter case ignored, are letters, at most eight: one computed test over the list, and what it says of a name that is a member.
+-- What a name that is a member of a list is, letter case ignored, each by one computed test over the list: a raw name is letters, at most eight; one of GitHub's
+-- tag filter has three bytes or more; and a name of any list begins with a letter.
 use mathlib.Core.Path.{_≡_, refl, _∙_, ap}
 use mathlib.Core.Bool.{Bool, true, false, _&&_}
 use mathlib.Core.List.{List, [], _∷_, map}
@@ -8,10 +9,10 @@ use lib.ListN.{length, length-map}
 use borrow.Author.Tests.{leb-true}
 use Rattle.lexical.specs.Text.{byte, first}
 use Rattle.lexical.specs.Byte.{within, isLetter, lower}
-use Rattle.lexical.specs.Name.{all, blockNames, rawNames, sameBytes, isMember, isBlockName, isRawName}
+use Rattle.lexical.specs.Name.{all, blockNames, rawNames, disallowedNames, sameBytes, isMember, isBlockName, isRawName, isDisallowedName}
 use Rattle.lexical.proofs.Cases.{split, clash, and-left, and-right, or-yes}
 use Rattle.lexical.proofs.Same.{same-equal}
-use Rattle.lexical.proofs.Names.{sound, raw-sound, block-sound, by-letter}
+use Rattle.lexical.proofs.Names.{sound, raw-sound, block-sound, disallowed-sound, by-letter}
 use Rattle.lexical.proofs.Letters.{isLower, begin-lower}
 
 -- what every name of a list passes, a member passes
@@ -51,7 +52,16 @@ pub raw-length : (n : List ℕ) → isRawName n ≡ true → length n ≤ 8
 raw-length n h =
     rw (length-map n lower) at (leb-true (length (map lower n)) 8 (and-right (all isLetter (map lower n)) (leb (length (map lower n)) 8) (lower-short n h)))
 
--- names of both lists begin with a letter
+-- three bytes or more
+some : all (λ n. leb 3 (length n)) disallowedNames ≡ true
+unfolding all disallowedNames
+some = refl
+
+pub disallowed-length : (n : List ℕ) → isDisallowedName n ≡ true → 3 ≤ length n
+unfolding isDisallowedName
+disallowed-length n h = rw (length-map n lower) at (leb-true 3 (length (map lower n)) (member-all (λ m. leb 3 (length m)) (map lower n) disallowedNames h some))
+
+-- names of all lists begin with a letter
 begins-letter : (n : List ℕ) → isLower (first (map lower n)) ≡ true → isLetter (first n) ≡ true
 begins-letter [] h = cc
 begins-letter (x ∷ xs) h = letter-of x (rw h (or-yes (within (byte "A") (byte "Z") (lower x))))
@@ -66,3 +76,7 @@ raw-first n h = member-letter n rawNames raw-sound h
 pub block-first : (n : List ℕ) → isBlockName n ≡ true → isLetter (first n) ≡ true
 unfolding isBlockName
 block-first n h = member-letter n blockNames block-sound h
+
+pub disallowed-first : (n : List ℕ) → isDisallowedName n ≡ true → isLetter (first n) ≡ true
+unfolding isDisallowedName
+disallowed-first n h = member-letter n disallowedNames disallowed-sound h
