@@ -6,12 +6,12 @@ use Rattle.lexical.specs.Name.{unnamed}
 use Rattle.rules.specs.Scan.{InlineAnswer, foundInline, noInline, refusedInline, BlockAnswer, foundBlock, noBlock, refusedBlock}
 use Rattle.rules.specs.Trace.{Record, eventRecord, lastRecord, refusedRecord}
 use Rattle.rules.specs.Withhold.{Shown, shows, refusedShown}
-use Rattle.trace.specs.Answer.{TraceAnswer, traced, refusedTrace}
+use Rattle.rules.specs.Output.{Wrote, wrote, refusedWrite}
 use Rattle.foringamo.specs.declared.block.BlockResult.{BlockResult}
 use Rattle.foringamo.specs.declared.inline.InlineResult.{InlineResult}
-use Rattle.foringamo.specs.declared.traced.TraceResult.{TraceResult}
 use Rattle.foringamo.specs.declared.record.RecordResult.{RecordResult}
 use Rattle.foringamo.specs.declared.shown.ShownResult.{ShownResult}
+use Rattle.foringamo.specs.declared.written.WrittenResult.{WrittenResult}
 
 -- yes is 1, no is 0
 abbrev pub flag : Bool → ℕ
@@ -28,10 +28,6 @@ inlineResult (foundInline stop carry) = record { refusal = 0; found = 1; carry =
 inlineResult (noInline carry) = record { refusal = 0; found = 0; carry = carry; stop = 0 }
 inlineResult (refusedInline n carry) = record { refusal = n; found = 0; carry = carry; stop = 0 }
 
-abbrev pub traceResult : TraceAnswer → TraceResult
-traceResult (traced n) = record { refusal = 0; length = n }
-traceResult (refusedTrace n) = record { refusal = n; length = 0 }
-
 abbrev pub recordResult : Record → RecordResult
 recordResult (eventRecord kind line column index vs) = record { refusal = 0; kind = kind; last = vs; line = line; column = column; index = index }
 recordResult (lastRecord kind stop value) = record { refusal = 0; kind = kind; last = value; line = 0; column = 0; index = stop }
@@ -40,3 +36,7 @@ recordResult (refusedRecord n) = record { refusal = n; kind = 0; last = 0; line 
 abbrev pub shownResult : Shown → ShownResult
 shownResult (shows n count) = record { refusal = 0; length = n; pieces = count }
 shownResult (refusedShown n) = record { refusal = n; length = 0; pieces = 0 }
+
+abbrev pub writtenResult : Wrote → WrittenResult
+writtenResult (wrote n) = record { refusal = 0; length = n }
+writtenResult (refusedWrite n) = record { refusal = n; length = 0 }

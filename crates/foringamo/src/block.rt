@@ -4,9 +4,9 @@ ghost use lib.ListN.{length};
 ghost use Rattle.rules.specs.Reading.{crate as ofCrate};
 ghost use Rattle.rules.specs.Scan.{blockScan};
 ghost use Rattle.trace.specs.Answer.{blockTraced, blockBuffer};
-ghost use Rattle.foringamo.specs.Result.{blockResult, traceResult};
-use crate::traced::TraceResult;
-use crate::traced::trace_result;
+ghost use Rattle.foringamo.specs.Result.{blockResult, writtenResult};
+use crate::written::WrittenResult;
+use crate::written::written_result;
 use flow::html_flow::kind_number;
 use flow::scan::Block;
 use flow::scan::block_scan;
@@ -72,9 +72,9 @@ pub extern "C" fn foringamo_block_trace(
     flags: &[u8],
     index: usize,
     out: &mut [u8],
-) -> TraceResult
-    ensures { λ r. ⌜ r ≡ traceResult (blockTraced (now (bulletin .entry)) (now (flags .entry)) index (length (now (out .entry)))) ⌝ }
+) -> WrittenResult
+    ensures { λ r. ⌜ r ≡ writtenResult (blockTraced (now (bulletin .entry)) (now (flags .entry)) index (length (now (out .entry)))) ⌝ }
     ensures { λ r. ⌜ now (out .exit) ≡ blockBuffer (now (bulletin .entry)) (now (flags .entry)) index (now (out .entry)) ⌝ }
 {
-    trace_result(block_trace(bulletin, flags, index, out))
+    written_result(block_trace(bulletin, flags, index, out))
 }

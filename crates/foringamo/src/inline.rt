@@ -4,9 +4,9 @@ ghost use lib.ListN.{length};
 ghost use Rattle.rules.specs.Reading.{crate as ofCrate};
 ghost use Rattle.rules.specs.Scan.{inlineScan};
 ghost use Rattle.trace.specs.Answer.{inlineTraced, inlineBuffer};
-ghost use Rattle.foringamo.specs.Result.{inlineResult, traceResult};
-use crate::traced::TraceResult;
-use crate::traced::trace_result;
+ghost use Rattle.foringamo.specs.Result.{inlineResult, writtenResult};
+use crate::written::WrittenResult;
+use crate::written::written_result;
 use html::scan::inline_scan;
 use html::tokenizer::Inline;
 use trace::tracer::inline_trace;
@@ -56,9 +56,9 @@ pub extern "C" fn foringamo_inline_trace(
     index: usize,
     carry: u8,
     out: &mut [u8],
-) -> TraceResult
-    ensures { λ r. ⌜ r ≡ traceResult (inlineTraced (now (text .entry)) index carry (length (now (out .entry)))) ⌝ }
+) -> WrittenResult
+    ensures { λ r. ⌜ r ≡ writtenResult (inlineTraced (now (text .entry)) index carry (length (now (out .entry)))) ⌝ }
     ensures { λ r. ⌜ now (out .exit) ≡ inlineBuffer (now (text .entry)) index carry (now (out .entry)) ⌝ }
 {
-    trace_result(inline_trace(text, index, carry, out))
+    written_result(inline_trace(text, index, carry, out))
 }

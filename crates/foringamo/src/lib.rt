@@ -2,8 +2,9 @@
 //
 // On a refusal every count and stop is 0, the carry is the one passed in, and no lent byte changes.
 pub mod block;
+pub mod filter;
 pub mod inline;
 pub mod lines;
 pub mod record;
 pub mod shown;
-mod traced;
+mod written;
