@@ -94,7 +94,7 @@ libdir=\${prefix}/lib
 includedir=\${prefix}/include
 
 Name: foringamo
-Description: What raw HTML is in a bulletin written in Markdown, and what is shown without it
+Description: What raw HTML is in a bulletin written in Markdown, and what is shown without it or by GitHub's tag filter
 Version: $version
 Cflags: -I\${includedir}
 Libs: -L\${libdir} -lforingamo

@@ -1,9 +1,10 @@
 /*
- * Raw HTML in bulletins: what it is, and what is shown without it.
+ * Raw HTML in bulletins: what it is, what is shown without it, and what GitHub's tag filter makes of it.
  *
  * A slice is a pointer and a length in bytes. With length 0 nothing is read or written behind the pointer; it may be any pointer but NULL. An output buffer
  * shares no byte with another slice, so `out` is never the bulletin itself. Any bytes are taken, valid UTF-8 or not, and NUL among them; what is written has no
- * NUL at its end and is not escaped for HTML. Nothing is kept when a function returns, none of them allocates, and any number of threads may call them.
+ * NUL at its end and is not escaped for HTML: foringamo_filter replaces the `<` of nine tags and no other byte. Nothing is kept when a function returns, none of
+ * them allocates, and any number of threads may call them.
  *
  * Every result comes back by value; but for the count of lines, which refuses nothing, it begins with its refusal. Look at it first: a refusal also has kind 0
  * or found 0, which without a refusal means that nothing was found.
@@ -33,7 +34,8 @@
  * the next line begins behind that; for the empty last line the index is the length.
  *
  * Each call looks through its whole input for refusals, and reading a trace walks from its first record: to scan at every line, or to read every record, costs
- * the square of the length. foringamo_withhold goes through a bulletin once.
+ * the square of the length. foringamo_withhold and foringamo_filter go through a bulletin once where there is the room that always suffices, else twice: first to
+ * count what they would write.
  */
 #ifndef FORINGAMO_H
 #define FORINGAMO_H
@@ -41,7 +43,7 @@
 #include <stddef.h>
 #include <stdint.h>
 
-#define FORINGAMO_VERSION "0.3.1"
+#define FORINGAMO_VERSION "0.4.0"
 
 #ifdef __cplusplus
 extern "C" {
@@ -80,11 +82,14 @@ typedef struct {
     size_t stop;
 } foringamo_inline;
 
-/* A trace that was written. */
+/* What was written, by a trace or by the filter. */
 typedef struct {
     uint8_t refusal;
     size_t length; /* bytes written */
-} foringamo_trace;
+} foringamo_written;
+
+/* A trace that was written: the same type, under the name that it had before there was a filter. */
+typedef foringamo_written foringamo_trace;
 
 /*
  * A record of a trace. Kinds 1 to 12 are events, enter (odd) and exit (even) of HtmlFlow, HtmlFlowData, LineEnding, HtmlText, HtmlTextData and SpaceOrTab;
@@ -129,6 +134,18 @@ foringamo_record foringamo_read_trace(const uint8_t *trace, size_t trace_len, si
 
 /* Writes the bulletin without its raw HTML. Room for bulletin_len bytes always suffices. Refusals 1, 2, 3, 7. */
 foringamo_shown foringamo_withhold(const uint8_t *bulletin, size_t bulletin_len, const uint8_t *flags, size_t flags_len, uint8_t *out, size_t out_len);
+
+/*
+ * Writes the bulletin as GitHub's tag filter shows it (GitHub Flavored Markdown Spec, Disallowed Raw HTML). The blocks and inline pieces are those that
+ * foringamo_withhold leaves out; here they are written, but the `<` of a tag named title, textarea, style, xmp, iframe, noembed, noframes, script or plaintext,
+ * in any letter case, opening or closing, as `&lt;`. Such a tag is `<`, an optional `/` and the name, with a space, a tab, a line ending, `>` or `/>` behind it in
+ * the bulletin, even beyond the block's stop; `<script` at the bulletin's very end has nothing behind it and stays. In a block every such place counts, of an
+ * inline piece only its first byte can, and outside of both nothing changes.
+ *
+ * What is written is HTML, with all that foringamo_withhold would hide. Room for bulletin_len * 8 / 5 bytes always suffices: the 5 bytes of `<xmp>` become 8, and no
+ * five bytes become more. Refusals 1, 2, 3, 7.
+ */
+foringamo_written foringamo_filter(const uint8_t *bulletin, size_t bulletin_len, const uint8_t *flags, size_t flags_len, uint8_t *out, size_t out_len);
 
 #ifdef __cplusplus
 }

@@ -147,9 +147,9 @@ places() {
     check 'what is installed names DESTDIR' test -z "$(grep -rlF "$folder" "$staged")"
 }
 
-# structs FILE: those that it shows, a line for each, without comments and spaces.
+# structs FILE: those that it shows, and further names for them, a line for each, without comments and spaces.
 structs() {
-    sed 's|/\*.*\*/||' "$1" | awk '/^typedef struct {/ { inside = 1 } inside { gsub(/ /, ""); line = line $0 } /^}/ { if (inside) print line; inside = 0; line = "" }' | sort
+    sed 's|/\*.*\*/||' "$1" | awk '/^typedef foringamo_/ { gsub(/ /, ""); print } /^typedef struct {/ { inside = 1 } inside { gsub(/ /, ""); line = line $0 } /^}/ { if (inside) print line; inside = 0; line = "" }' | sort
 }
 
 manual() {

@@ -1,4 +1,4 @@
-//! Raw HTML in bulletins written in Markdown: what it is, and what is shown without it.
+//! Raw HTML in bulletins written in Markdown: what it is, what is shown without it, and what GitHub's tag filter makes of it.
 //!
 //! The functions of the C interface (include/foringamo.h), over slices. Behind each stands one that is proved to give what its definition says; what is here only
 //! hands its answer on. None allocates, and nothing is kept when it returns.
@@ -256,8 +256,9 @@ mod c {
         pub stop: usize,
     }
 
+    // Of both traces and of the filter.
     #[repr(C)]
-    pub struct Trace {
+    pub struct Written {
         pub refusal: u8,
         pub length: usize,
     }
@@ -292,8 +293,8 @@ mod c {
             index: usize,
             out: *mut u8,
             out_len: usize,
-        ) -> Trace;
-        pub fn foringamo_inline_trace(text: *const u8, text_len: usize, index: usize, carry: u8, out: *mut u8, out_len: usize) -> Trace;
+        ) -> Written;
+        pub fn foringamo_inline_trace(text: *const u8, text_len: usize, index: usize, carry: u8, out: *mut u8, out_len: usize) -> Written;
         pub fn foringamo_read_trace(trace: *const u8, trace_len: usize, number: usize) -> Record;
         pub fn foringamo_withhold(
             bulletin: *const u8,
@@ -303,6 +304,14 @@ mod c {
             out: *mut u8,
             out_len: usize,
         ) -> Shown;
+        pub fn foringamo_filter(
+            bulletin: *const u8,
+            bulletin_len: usize,
+            flags: *const u8,
+            flags_len: usize,
+            out: *mut u8,
+            out_len: usize,
+        ) -> Written;
     }
 }
 
@@ -463,6 +472,31 @@ pub fn withhold(bulletin: &[u8], flags: &[u8], out: &mut [u8]) -> Result<Shown, 
     unless_refused(got.refusal, || Shown { length: got.length, pieces: got.pieces })
 }
 
+/// Writes the bulletin as GitHub's tag filter shows it (GitHub Flavored Markdown Spec, Disallowed Raw HTML) and gives the length. Refusals 1, 2, 3, 7.
+///
+/// The blocks and inline pieces are those that [`withhold`] leaves out; here they are written, but the `<` of a tag named title, textarea, style, xmp, iframe,
+/// noembed, noframes, script or plaintext, in any letter case, opening or closing, as `&lt;`. Such a tag is `<`, an optional `/` and the name, with a space, a
+/// tab, a line ending, `>` or `/>` behind it in the bulletin, even beyond the block's stop; `<script` at the bulletin's very end has nothing behind it and stays.
+/// In a block every such place counts, of an inline piece only its first byte can, and outside of both nothing changes.
+///
+/// What is written is HTML, with all that [`withhold`] would hide. Room for `bulletin.len() * 8 / 5` bytes always suffices: the 5 bytes of `<xmp>` become 8,
+/// and no five bytes become more.
+///
+/// ```
+/// let bulletin = b"a <b> <XMP>\n<div>\n</style\n";
+/// let flags = vec![0; foringamo::count_lines(bulletin)];
+/// let mut out = vec![0; bulletin.len() * 8 / 5];
+/// let length = foringamo::filter(bulletin, &flags, &mut out)?;
+/// assert_eq!(&out[..length], b"a <b> &lt;XMP>\n<div>\n&lt;/style\n");
+/// # Ok::<(), foringamo::Refusal>(())
+/// ```
+pub fn filter(bulletin: &[u8], flags: &[u8], out: &mut [u8]) -> Result<usize, Refusal> {
+    let got = unsafe {
+        c::foringamo_filter(bulletin.as_ptr(), bulletin.len(), flags.as_ptr(), flags.len(), out.as_mut_ptr(), out.len())
+    };
+    unless_refused(got.refusal, || got.length)
+}
+
 #[cfg(test)]
 mod tests {
     use super::c;
@@ -479,8 +513,8 @@ mod tests {
             [offset_of!(c::Inline, refusal), offset_of!(c::Inline, found), offset_of!(c::Inline, carry), offset_of!(c::Inline, stop)],
             [0, 1, 2, 8]
         );
-        assert_eq!(size_of::<c::Trace>(), 16);
-        assert_eq!([offset_of!(c::Trace, refusal), offset_of!(c::Trace, length)], [0, 8]);
+        assert_eq!(size_of::<c::Written>(), 16);
+        assert_eq!([offset_of!(c::Written, refusal), offset_of!(c::Written, length)], [0, 8]);
         assert_eq!(size_of::<c::Record>(), 32);
         assert_eq!([offset_of!(c::Record, refusal), offset_of!(c::Record, kind), offset_of!(c::Record, last)], [0, 1, 2]);
         assert_eq!([offset_of!(c::Record, line), offset_of!(c::Record, column), offset_of!(c::Record, index)], [8, 16, 24]);

@@ -2,8 +2,8 @@
 #![forbid(unsafe_code)]
 
 use foringamo::{
-    block_scan, block_trace, count_lines, inline_scan, inline_trace, read_trace, withhold, Block, Inline, Kind, Name, Point, Record, Refusal, Shown, BLOCK_NAMES,
-    INTERRUPT, LAZY, LIMIT, RAW_NAMES,
+    block_scan, block_trace, count_lines, filter, inline_scan, inline_trace, read_trace, withhold, Block, Inline, Kind, Name, Point, Record, Refusal, Shown,
+    BLOCK_NAMES, INTERRUPT, LAZY, LIMIT, RAW_NAMES,
 };
 
 const FILL: u8 = 0xee;
@@ -42,6 +42,9 @@ fn limit() {
     assert_eq!(withhold(&text[..LIMIT], &[0], &mut out), Ok(Shown { length: LIMIT, pieces: 0 }));
     assert_eq!(out[..LIMIT], text[..LIMIT]);
     assert_eq!(withhold(&text, &[0], &mut out), Err(Refusal::TooLong));
+    assert_eq!(filter(&text[..LIMIT], &[0], &mut out), Ok(LIMIT));
+    assert_eq!(out[..LIMIT], text[..LIMIT]);
+    assert_eq!(filter(&text, &[0], &mut out), Err(Refusal::TooLong));
     assert_eq!(block_scan(&text, &[0], 0), Err(Refusal::TooLong));
     assert_eq!(inline_scan(&text, 0, 0), Err(Refusal::TooLong));
     assert_eq!(block_trace(&text, &[0], 0, &mut out), Err(Refusal::TooLong));
@@ -67,6 +70,75 @@ fn withheld() {
     assert_eq!(withhold(b"", &[0], &mut []), Ok(Shown { length: 0, pieces: 0 }));
     assert_eq!(withhold(b"", &[], &mut []), Err(Refusal::WrongCount));
     assert_eq!(withhold(b"a", &[4], &mut []), Err(Refusal::WrongFlag));
+}
+
+// What the filter makes of a bulletin, all flags 0, with the room that always suffices.
+fn filtered_of(bulletin: &[u8]) -> Vec<u8> {
+    let mut out = vec![FILL; bulletin.len() * 8 / 5];
+    let length = filter(bulletin, &vec![0; count_lines(bulletin)], &mut out).expect("not refused");
+    assert!(out[length..].iter().all(|&b| b == FILL), "{bulletin:?}");
+    out.truncate(length);
+    out
+}
+
+// The example of the GitHub Flavored Markdown Spec, in every room.
+#[test]
+fn filtered() {
+    let bulletin = b"<strong> <title> <style> <em>\n\n<blockquote>\n  <xmp> is disallowed.  <XMP> is also disallowed.\n</blockquote>\n";
+    let shown = b"<strong> &lt;title> &lt;style> <em>\n\n<blockquote>\n  &lt;xmp> is disallowed.  &lt;XMP> is also disallowed.\n</blockquote>\n";
+    for room in 0..=bulletin.len() * 8 / 5 {
+        let mut out = vec![FILL; room];
+        let got = filter(bulletin, &[0; 6], &mut out);
+        if room < shown.len() {
+            assert_eq!(got, Err(Refusal::NoRoom));
+            assert!(out.iter().all(|&b| b == FILL));
+        } else {
+            assert_eq!(got, Ok(shown.len()));
+            assert_eq!(&out[..shown.len()], shown);
+            assert!(out[shown.len()..].iter().all(|&b| b == FILL));
+        }
+    }
+    assert_eq!(filter(b"", &[0], &mut []), Ok(0));
+    assert_eq!(filter(b"", &[], &mut []), Err(Refusal::WrongCount));
+    assert_eq!(filter(b"a", &[4], &mut []), Err(Refusal::WrongFlag));
+    assert_eq!(filter(b"a", &[0], &mut []), Err(Refusal::NoRoom));
+
+    let most = b"<xmp>".repeat(LIMIT / 5);
+    assert_eq!(filtered_of(&most), b"&lt;xmp>".repeat(LIMIT / 5));
+    let mut short = vec![FILL; LIMIT * 8 / 5 - 1];
+    assert_eq!(filter(&most, &[0], &mut short), Err(Refusal::NoRoom));
+    assert!(short.iter().all(|&b| b == FILL));
+}
+
+// Each of the nine names, in a block and as an inline piece, by what is behind it.
+#[test]
+fn disallowed() {
+    for name in ["title", "textarea", "style", "xmp", "iframe", "noembed", "noframes", "script", "plaintext"] {
+        for tag in [name.to_string(), name.to_uppercase(), format!("/{name}"), format!("/{}", name.to_uppercase())] {
+            for behind in [">", " >", "\t>", "\n>", "\r>", "\r\n>"] {
+                for front in ["<div>", "<!-- ", "a "] {
+                    let shown = filtered_of(format!("{front}<{tag}{behind}").as_bytes());
+                    assert_eq!(shown, format!("{front}&lt;{tag}{behind}").as_bytes(), "{front}<{tag}{behind:?}");
+                }
+            }
+            for behind in ["", "s>", "-", "1", "/", "/ >", "\">", "<b>"] {
+                for front in ["<div>", "<!-- ", "a "] {
+                    let text = format!("{front}<{tag}{behind}");
+                    assert_eq!(filtered_of(text.as_bytes()), text.as_bytes());
+                }
+            }
+        }
+    }
+    for (text, shown) in [
+        (&b"<div></xmp/>"[..], &b"<div>&lt;/xmp/>"[..]),
+        (b"a <xmp/> </xmp/>", b"a &lt;xmp/> </xmp/>"),
+        (b"a <!-- <xmp> --> <xmp>", b"a <!-- <xmp> --> &lt;xmp>"),
+        (b"<!-- <xmp> -->", b"<!-- &lt;xmp> -->"),
+        (b"<div>\n<iframe\n\nx", b"<div>\n&lt;iframe\n\nx"),
+        (b"< xmp> <xmp <b>", b"< xmp> <xmp <b>"),
+    ] {
+        assert_eq!(filtered_of(text), shown, "{text:?}");
+    }
 }
 
 #[test]

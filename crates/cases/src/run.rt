@@ -22,6 +22,7 @@
 // `ROOM LENGTH FLAGS TEXT`, the same with two numbers of five digits:
 //
 //     w    withholding (screens.rt)
+//     g    GitHub's tag filter (screens.rt)
 //
 // Hexadecimal: INDEX of two bytes, COUNT of one, ROOM of two, high byte first, as many flags as COUNT says, and the text. The carry of an inline scan is its one
 // flag.
@@ -133,7 +134,8 @@ fn one(line: &[u8]) {
     let letter = byte_at(line, 0);
     match letter {
         b'n' => crate::lines::line(from_indices(line, 2, line.len())),
-        b'w' => crate::screens::withheld(line),
+        b'w' => crate::screens::screened(false, line),
+        b'g' => crate::screens::screened(true, line),
         b'I' | b'B' | b'e' | b's' | b'l' | b'S' | b'L' => in_hexadecimal(letter, line),
         _ => in_digits(letter, line),
     }

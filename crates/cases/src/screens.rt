@@ -1,4 +1,4 @@
-// Cases of withholding: `ROOM LENGTH FLAGS TEXT`. The bulletin is the text, repeated and cut to its length.
+// Cases of withholding and of the tag filter: `ROOM LENGTH FLAGS TEXT`. The bulletin is the text, repeated and cut to its length.
 use crate::escape::FLAGS;
 use crate::escape::flags_of;
 use crate::escape::number;
@@ -9,11 +9,15 @@ use crate::show::put;
 use crate::show::refused;
 use crate::show::space;
 use lexical::slice::from_indices;
+use rules::Output;
 use screen::withhold::Withheld;
 use screen::withhold::withhold;
+use tagfilter::filter::filter;
 
-// How many bytes a bulletin has at most.
+// How many bytes a bulletin has at most, and an output buffer: one more than the filter can need.
 const LIMIT: usize = 16000;
+
+const ROOM: usize = 25601;
 
 // Where the room of a case stands, the length, the flags, and the text where there is no flag.
 const ROOM_AT: usize = 2;
@@ -102,20 +106,41 @@ fn show(answer: Withheld, out: &[u8]) {
     }
 }
 
-fn into(bulletin: &[u8], flags: &[u8], out: &mut [u8]) {
+// The same, with `written LENGTH BYTES`.
+fn show_written(answer: Output, out: &[u8]) {
+    match answer {
+        Output::Written { length } => {
+            show_same(out, length);
+            put(b"written ", length as u64);
+            space();
+            show_bytes(from_indices(out, 0, length));
+        }
+        Output::Refused { refusal } => {
+            show_same(out, 0);
+            refused(refusal as u64);
+        }
+    }
+}
+
+fn into(filters: bool, bulletin: &[u8], flags: &[u8], out: &mut [u8]) {
+    if filters {
+        let answer = filter(bulletin, flags, out);
+        show_written(answer, out);
+        return;
+    }
     let answer = withhold(bulletin, flags, out);
     show(answer, out);
 }
 
-fn with_room(bulletin: &[u8], flags: &[u8], room: usize) {
-    let mut out = [FILL; LIMIT];
-    if room <= LIMIT {
-        into(bulletin, flags, &mut out[0..room]);
+fn with_room(filters: bool, bulletin: &[u8], flags: &[u8], room: usize) {
+    let mut out = [FILL; ROOM];
+    if room <= ROOM {
+        into(filters, bulletin, flags, &mut out[0..room]);
     }
 }
 
-// Withholding, from a whole case.
-pub fn withheld(line: &[u8]) {
+// The tag filter, or withholding, from a whole case.
+pub fn screened(filters: bool, line: &[u8]) {
     let mut flags = [0u8; FLAGS];
     let mut bulletin = [0u8; LIMIT + 1];
     let room = number(from_indices(line, ROOM_AT, LENGTH_AT));
@@ -124,6 +149,7 @@ pub fn withheld(line: &[u8]) {
     let n = unescape(line, count + TEXT_AT, &mut bulletin);
     repeat(&mut bulletin, n, length);
     with_room(
+        filters,
         from_indices(&bulletin, 0, length),
         from_indices(&flags, 0, count),
         room,

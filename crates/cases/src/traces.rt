@@ -5,10 +5,10 @@ use crate::show::put;
 use crate::show::refused;
 use crate::show::show_bytes;
 use crate::show::space;
+use rules::Output;
 use trace::block::block_trace;
 use trace::reader::Record;
 use trace::reader::read_trace;
-use trace::tracer::Traced;
 use trace::tracer::inline_trace;
 
 // How many bytes an output buffer has at most.
@@ -18,12 +18,12 @@ const ROOM: usize = 1024;
 const FILL: u8 = 0xee;
 
 // `traced LENGTH` or `refused NUMBER`, and the buffer.
-fn show_trace(answer: Traced, out: &[u8]) {
+fn show_trace(answer: Output, out: &[u8]) {
     match answer {
-        Traced::Length(n) => {
+        Output::Written { length: n } => {
             put(b"traced ", n as u64);
         }
-        Traced::Refused { refusal } => {
+        Output::Refused { refusal } => {
             refused(refusal as u64);
         }
     }
