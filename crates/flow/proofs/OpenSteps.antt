@@ -7,7 +7,7 @@ use native.Mathlib.Omega.{arith}
 use lib.Dec.{eqb, leb}
 use lib.ListN.{length, getD, take, drop}
 use borrow.Author.Tests.{eqb-true, ne-eqb, lt-leb, le-leb}
-use Rattle.lexical.specs.Text.{byte, bytes, first, run}
+use Rattle.lexical.specs.Text.{byte, first, run}
 use Rattle.lexical.specs.Byte.{isLetter, isSpaceOrTab, isLineEndingByte}
 use Rattle.lexical.specs.Name.{cdataPrefix}
 use Rattle.lexical.specs.Line.{lineLength}

@@ -1,12 +1,12 @@
 -- How long the output can be: no five bytes become more than eight. Only `<` grows, to four bytes, and behind it stand four bytes or more that are no `<`, which stay:
 -- a name of three or more, and what follows it. So bytes in front that are no `<` are worth three bytes each that a tag may use up.
 use mathlib.Core.Path.{_≡_, refl}
-use mathlib.Core.Bool.{Bool, true, false, _&&_, _||_, not}
+use mathlib.Core.Bool.{Bool, true, false, _&&_, not}
 use mathlib.Core.List.{List, [], _∷_}
 use Prim.Native.Nat.{ℕ, suc, _+_, _*_, _-_, _≤_}
 use native.Mathlib.Omega.{arith}
 use lib.Dec.{eqb}
-use lib.ListN.{length, take, drop, length-take}
+use lib.ListN.{length, drop, length-take}
 use borrow.Author.Tests.{eqb-true}
 use Rattle.lexical.specs.Text.{byte, bytes, run}
 use Rattle.lexical.specs.Byte.{isTagNameByte}

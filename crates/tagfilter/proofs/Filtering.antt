@@ -1,7 +1,7 @@
 -- The filter is an output that goes by pieces, so what the law of the walk says of any such output holds of its length and its bytes; and the laws of its answer.
 use mathlib.Core.Path.{_≡_, refl, sym, _∙_, ap}
-use mathlib.Core.Bool.{Bool, true, false}
-use mathlib.Core.List.{List, [], _∷_}
+use mathlib.Core.Bool.{Bool}
+use mathlib.Core.List.{List, []}
 use Prim.Native.Nat.{ℕ, _+_, _-_, _≤_}
 use native.Mathlib.Omega.{arith}
 use lib.ListN.{length, take, drop}
@@ -10,7 +10,7 @@ use Rattle.lexical.specs.Text.{limit}
 use Rattle.lexical.specs.Buffer.{Written}
 use Rattle.lexical.proofs.Stores.{written-as}
 use Rattle.rules.specs.Refusal.{bulletinRefusal, outputRefusal}
-use Rattle.rules.specs.Withhold.{Piece, piece, pieces, written}
+use Rattle.rules.specs.Withhold.{Piece, piece, written}
 use Rattle.rules.specs.Output.{outputOf, Writes}
 use Rattle.rules.specs.Filter.{replaced, filtered, filterRefusal, filter}
 use Rattle.rules.specs.declared.Rules.{Rules}
@@ -20,8 +20,8 @@ use Rattle.rules.proofs.Refusals.{not-met}
 use Rattle.rules.proofs.Outputs.{all-written}
 use Rattle.walk.specs.Remaining.{isBlock, remaining, Leads}
 use Rattle.walk.specs.declared.pieces.Cursor.{Cursor}
-use Rattle.walk.proofs.Walk.{Walking, size-is, Showing, shows-all}
-use Rattle.walk.proofs.Replacing.{between, Replacing, output, replaced-on, replaced-bound, copied-bound, replaced-shown, copied-shown}
+use Rattle.walk.proofs.Walk.{Walking, Showing, shows-all}
+use Rattle.walk.proofs.Replacing.{between, Replacing, output, replaced-on, replaced-bound, replaced-shown}
 use Rattle.tagfilter.specs.Part.{pieceBytes, WritesPart}
 use Rattle.tagfilter.proofs.Replaced.{replaced-none, replaced-next}
 
@@ -55,14 +55,6 @@ module _ (ρ : Rules) (text flags : List ℕ) where
       unfolding filtered
       size-bound = omega (arith, replaced-bound ρ text flags (filtering text) c from size walking start stop b d leads, ap length (told start stop b d leads))
 
-    pub end-bound : remaining ρ text flags c ≡ [] → size + (length text - from) ≤ length (filtered ρ text flags)
-    unfolding filtered
-    end-bound over = copied-bound ρ text flags (filtering text) c from size walking over
-
-    pub length-is : length text ≤ from → size ≡ length (filtered ρ text flags)
-    unfolding filtered
-    length-is l = size-is ρ text flags (output (filtering text)) c from size walking l
-
   -- ---- the bytes
   module _ (old : List ℕ) where
     abbrev pub ShownUpTo : List ℕ → Cursor → ℕ → ℕ → Type 0
@@ -76,11 +68,6 @@ module _ (ρ : Rules) (text flags : List ℕ) where
           let e = told start stop b d leads in
           replaced-shown ρ text flags (filtering text) old room out c from size showing start stop b d leads mid new n
           (w .behind ∙ ap (λ t. size + (start - from) + length t) e) v (written-as _ (sym e) (w .bytes-are))
-
-      pub shown-end : remaining ρ text flags c ≡ [] → (new : List ℕ) → Written out size (take (length out - size) (between text from (length text))) new
-          → ShownUpTo new c (length text) (size + (length text - from))
-      unfolding filtered
-      shown-end over new w = copied-shown ρ text flags (filtering text) old room out c from size showing over new w
 
       pub shows-filtered : length text ≤ from → Writes 0 (filtered ρ text flags) old (WrittenBytes size) out
       unfolding filtered

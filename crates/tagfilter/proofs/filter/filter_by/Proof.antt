@@ -1,3 +1,4 @@
+-- Each return is a row of the table of refusals, or the answer.
 use mathlib.Core.Path.{sym, _∙_}
 use borrow.Author.Tests.{not-true, not-false, leb-true, leb-false}
 use Rattle.rules.specs.Filter.{filtered}

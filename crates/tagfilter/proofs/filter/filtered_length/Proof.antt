@@ -1,13 +1,16 @@
+-- From piece to piece, by the law of the walk: the bytes before each piece and what comes in its place are counted, and then the rest. The sum is within eight
+-- fifths of the bulletin, so that none wraps.
 use mathlib.Core.Path.{sym, subst}
 use Prim.Native.Nat.{_-_}
 use native.Mathlib.Omega.{arith}
 use lib.ListN.{length}
 use Rattle.lexical.specs.Text.{limit}
+use Rattle.rules.specs.Filter.{filtered}
 use Rattle.walk.specs.Remaining.{Goes, remaining}
-use Rattle.walk.proofs.Walk.{walking-start, within, from-to}
-use Rattle.walk.proofs.Replacing.{output, copied-end}
+use Rattle.walk.proofs.Walk.{walking-start, within, from-to, size-is}
+use Rattle.walk.proofs.Replacing.{output, copied-bound, copied-end}
 use Rattle.tagfilter.proofs.Bound.{filtered-bound}
-use Rattle.tagfilter.proofs.Filtering.{filtering, LengthUpTo, length-on, size-bound, end-bound, length-is}
+use Rattle.tagfilter.proofs.Filtering.{filtering, LengthUpTo, length-on, size-bound}
 use borrow.Author.Needs.{needs}
 use Rattle.tagfilter.proofs.filter.filtered_length.Statement.{statement}
 use Rattle.tagfilter.proofs.filter.filtered_length.Tie as tie
@@ -67,10 +70,10 @@ sub-size-2 : tie.Need-sub-size-2 Inv-loop μ-loop
 sub-size-2 c = let a = c .before .before .before .before .before .before .before .before .args in let r = a .rules in let b = a .bulletin .now in let f = a .flags .now in let at = c .before .before .before .before .loop in within r b f (output (filtering b)) _ _ _ (at .inv)
 
 add-size-3 : tie.Need-add-size-3 Inv-loop μ-loop
-unfolding limit
+unfolding limit filtered
 add-size-3 c = let a = c .before .before .before .before .before .before .before .before .args in let r = a .rules in let b = a .bulletin .now in let f = a .flags .now in let at = c .before .before .before .before .loop in
     let o = subst (Goes r b f (remaining r b f (at .cursor))) (c .enum-told .given .1) (c .before .before .next-piece .ensures (at .inv .valid)) in
-    omega (arith, end-bound r b f _ _ _ (at .inv) o, filtered-bound r b f, c .before .before .before .before .before .before .before .before .pre)
+    omega (arith, copied-bound r b f (filtering b) _ _ _ (at .inv) o, filtered-bound r b f, c .before .before .before .before .before .before .before .before .pre)
 
 loop-less-2 : tie.Need-loop-less-2 Inv-loop μ-loop
 loop-less-2 c = let h = c .before .before .before .loop-test .taken in omega (arith, h)
@@ -80,7 +83,8 @@ loop-again-2 c = let a = c .before .before .before .before .before .before .befo
     let o = subst (Goes r b f (remaining r b f (at .cursor))) (c .enum-told .given .1) (c .before .before .next-piece .ensures (at .inv .valid)) in copied-end r b f (filtering b) _ _ _ (at .inv) o
 
 returns : tie.Need-returns Inv-loop μ-loop
-returns c = let a = c .before .before .before .before .before .args in length-is (a .rules) (a .bulletin .now) (a .flags .now) _ _ _ (c .before .loop .inv) (c .loop-test .left)
+unfolding filtered
+returns c = let a = c .before .before .before .before .before .args in size-is (a .rules) (a .bulletin .now) (a .flags .now) (output (filtering (a .bulletin .now))) _ _ _ (c .before .loop .inv) (c .loop-test .left)
 
 pub filtered-length-spec : {M : Type 1} → statement M
 filtered-length-spec =

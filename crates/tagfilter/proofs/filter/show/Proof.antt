@@ -1,12 +1,14 @@
-use mathlib.Core.Path.{sym, _∙_, subst}
+-- From piece to piece, by the law of the walk: the bytes before each piece are copied, what comes in its place is written, and then the rest is copied.
+use mathlib.Core.Path.{sym, subst}
 use Prim.Native.Nat.{_-_}
 use native.Mathlib.Omega.{arith}
 use lib.ListN.{length}
 use Rattle.lexical.proofs.Stores.{same}
+use Rattle.rules.specs.Filter.{filtered}
 use Rattle.walk.specs.Remaining.{Goes, remaining}
 use Rattle.walk.proofs.Walk.{within, from-to, showing-start}
-use Rattle.walk.proofs.Replacing.{output}
-use Rattle.tagfilter.proofs.Filtering.{filtering, ShownUpTo, size-bound, end-bound, shown-on, shown-end, shows-filtered}
+use Rattle.walk.proofs.Replacing.{output, copied-bound, copied-shown}
+use Rattle.tagfilter.proofs.Filtering.{filtering, ShownUpTo, size-bound, shown-on, shows-filtered}
 use borrow.Author.Needs.{needs}
 use Rattle.tagfilter.proofs.filter.show.Statement.{statement}
 use Rattle.tagfilter.proofs.filter.show.Tie as tie
@@ -68,17 +70,19 @@ sub-size : tie.Need-sub-size Inv-loop μ-loop
 sub-size c = let a = c .before .before .before .before .before .before .before .before .before .before .before .before .before .args in let r = a .rules in let b = a .bulletin .now in let f = a .flags .now in let at = c .before .before .before .before .before .before .before .before .loop in within r b f (output (filtering b)) _ _ _ (at .inv .walking)
 
 add-size : tie.Need-add-size Inv-loop μ-loop
+unfolding filtered
 add-size c = let a = c .before .before .before .before .before .before .before .before .before .before .before .before .before .args in let r = a .rules in let b = a .bulletin .now in let f = a .flags .now in let at = c .before .before .before .before .before .before .before .before .loop in
     let o = subst (Goes r b f (remaining r b f (at .cursor))) (c .before .before .before .before .enum-told .given .1) (c .before .before .before .before .before .before .next-piece .ensures (at .inv .walking .valid)) in
-    let h = end-bound r b f _ _ _ (at .inv .walking) o in let p = c .before .before .before .before .before .before .before .before .before .before .before .before .before .pre in let g = c .before .before .before .before .before .before .before .before .before .before .before .before .before .good in search (needs, h, p, g)
+    let h = copied-bound r b f (filtering b) _ _ _ (at .inv .walking) o in let p = c .before .before .before .before .before .before .before .before .before .before .before .before .before .pre in let g = c .before .before .before .before .before .before .before .before .before .before .before .before .before .good in search (needs, h, p, g)
 
 loop-less-2 : tie.Need-loop-less-2 Inv-loop μ-loop
 loop-less-2 c = let h = c .before .before .before .before .before .before .before .loop-test .taken in omega (arith, h)
 
 loop-again-2 : tie.Need-loop-again-2 Inv-loop μ-loop
+unfolding filtered
 loop-again-2 c = let a = c .before .before .before .before .before .before .before .before .before .before .before .before .before .args in let r = a .rules in let b = a .bulletin .now in let f = a .flags .now in let at = c .before .before .before .before .before .before .before .before .loop in
     let o = subst (Goes r b f (remaining r b f (at .cursor))) (c .before .before .before .before .enum-told .given .1) (c .before .before .before .before .before .before .next-piece .ensures (at .inv .walking .valid)) in
-    shown-end r b f (a .out .now) (c .before .before .before .before .before .before .before .before .before .before .before .before .before .pre) _ (at .cursor) (at .from) (at .size) (at .inv) o _ (c .before .before .copy-part2 .ensures)
+    copied-shown r b f (filtering b) (a .out .now) (c .before .before .before .before .before .before .before .before .before .before .before .before .before .pre) _ (at .cursor) (at .from) (at .size) (at .inv) o _ (c .before .before .copy-part2 .ensures)
 
 same-length : tie.Need-same-length Inv-loop μ-loop
 same-length c = search needs

@@ -1,3 +1,4 @@
+-- What comes in place of the piece is a part with its tags replaced, and the rest as it is.
 use mathlib.Core.Path.{_∙_}
 use native.Mathlib.Omega.{arith}
 use Rattle.lexical.proofs.Stores.{same}

@@ -1,3 +1,4 @@
+-- Up to each `<` of a line, and over a `<` that begins no tag, all bytes stay; so they do up to the first tag, or the stop.
 use mathlib.Core.Path.{sym, _∙_}
 use Prim.Native.Nat.{_+_, _-_}
 use native.Mathlib.Omega.{arith}

@@ -1,3 +1,4 @@
+-- Three bytes more for each tag, beside the bytes that are there.
 use Prim.Native.Nat.{_-_}
 use native.Mathlib.Omega.{arith}
 use Rattle.lexical.specs.Text.{limit}

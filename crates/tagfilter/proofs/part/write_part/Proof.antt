@@ -1,3 +1,5 @@
+-- From tag to tag: what stands before it is copied, and `&lt;` comes in its place; what is done and what is to come are together the whole part. Behind the last tag the
+-- rest is copied.
 use mathlib.Core.Path.{_∙_}
 use Prim.Native.Nat.{_-_}
 use native.Mathlib.Omega.{arith}

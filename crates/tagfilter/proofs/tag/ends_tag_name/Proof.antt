@@ -1,3 +1,4 @@
+-- Each return is one outcome of the tests.
 use mathlib.Core.Path.{sym, _∙_, ap}
 use mathlib.Core.Bool.{_||_}
 use lib.Dec.{eqb}

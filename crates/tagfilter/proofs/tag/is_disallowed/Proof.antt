@@ -1,3 +1,4 @@
+-- Each return is one outcome of the tests on the first two bytes.
 use mathlib.Core.Path.{sym, _∙_}
 use Rattle.tagfilter.proofs.Tags.{tag-out, tag-other, tag-last, tag-closing, tag-opening}
 use borrow.Author.Needs.{needs}
