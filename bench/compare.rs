@@ -1,9 +1,15 @@
-//! What the scans and withholding cost: the library, and the Rust. bench/run.sh builds and runs it; without `--cfg reference` the library is measured alone.
+//! What the scans, withholding and the tag filter cost: the library, and the Rust. bench/run.sh builds and runs it; without `--cfg reference` the library is measured
+//! alone.
 //!
 //! Both sides get the same bytes and indices, and their answers are compared before they are timed. The sides, and the lengths of an input, take turns in rounds of
 //! about a millisecond; all inputs are gone through several times, and the least time of all rounds counts, since other work on the machine can only slow a round
-//! down.
+//! down. The filter is timed in the library alone: over the Rust's scans it costs about what withholding does there.
 #![forbid(unsafe_code)]
+
+// The rule by which compare/ judges the filter.
+#[cfg(reference)]
+#[path = "../compare/src/filter.rs"]
+mod filter;
 
 use foringamo::Inline;
 use std::hint::black_box;
@@ -40,6 +46,11 @@ mod library {
         let shown = foringamo::withhold(bulletin, flags, out).expect("not refused");
         (shown.length, shown.pieces)
     }
+
+    // The shown length; the filter counts no pieces.
+    pub fn filter(bulletin: &[u8], flags: &[u8], out: &mut [u8]) -> (usize, usize) {
+        (foringamo::filter(bulletin, flags, out).expect("not refused"), 0)
+    }
 }
 
 #[cfg(reference)]
@@ -57,14 +68,21 @@ mod rust {
         (block.kind > 0).then_some((block.kind, block.stop))
     }
 
+    // A block or an inline piece.
+    struct Found {
+        start: usize,
+        stop: usize,
+        block: bool,
+    }
+
     // 01's Withhold paragraph over the Rust's scans. A scan gets what begins at its place, since the Rust walks to an index from line 1. Nothing is refused.
-    pub fn withhold(bulletin: &[u8], flags: &[u8], out: &mut [u8]) -> (usize, usize) {
-        let mut pieces = vec![];
+    fn pieces(bulletin: &[u8], flags: &[u8]) -> Vec<Found> {
+        let mut pieces: Vec<Found> = vec![];
         let mut paragraph: Option<(usize, usize)> = None;
         let mut from = 0;
         for line in 0..flags.len() {
             let (end, next) = line_end(bulletin, from);
-            let in_block = pieces.last().is_some_and(|&(_, stop)| from < stop);
+            let in_block = pieces.last().is_some_and(|piece| from < piece.stop);
             let found = if in_block { None } else { block(&bulletin[from..], &flags[line..], 0) };
             if in_block || found.is_some() || blank(&bulletin[from..end]) {
                 if let Some((start, end)) = paragraph.take() {
@@ -74,24 +92,24 @@ mod rust {
                 paragraph = Some((paragraph.map_or(from, |(start, _)| start), end));
             }
             if let Some((_, stop)) = found {
-                pieces.push((from, from + stop));
+                pieces.push(Found { start: from, stop: from + stop, block: true });
             }
             from = next;
         }
         if let Some((start, end)) = paragraph {
             inline_pieces(&bulletin[..end], start, &mut pieces);
         }
-        (show(bulletin, &pieces, out), pieces.len())
+        pieces
     }
 
     // The pieces of the paragraph between the index and the end.
-    fn inline_pieces(text: &[u8], index: usize, pieces: &mut Vec<(usize, usize)>) {
+    fn inline_pieces(text: &[u8], index: usize, pieces: &mut Vec<Found>) {
         let mut index = index;
         while let Some(size) = text[index..].iter().position(|&byte| byte == b'<') {
             let start = index + size;
             index = match inline(&text[start..], 0) {
                 Some((_, stop)) => {
-                    pieces.push((start, start + stop));
+                    pieces.push(Found { start, stop: start + stop, block: false });
                     start + stop
                 }
                 None => start + 1,
@@ -99,16 +117,31 @@ mod rust {
         }
     }
 
-    // Copies what is outside the pieces, and gives its length.
-    fn show(bulletin: &[u8], pieces: &[(usize, usize)], out: &mut [u8]) -> usize {
+    // Copies what is outside the pieces, and gives its length and the number of pieces.
+    pub fn withhold(bulletin: &[u8], flags: &[u8], out: &mut [u8]) -> (usize, usize) {
+        let pieces = pieces(bulletin, flags);
         let mut length = 0;
         let mut from = 0;
-        for &(start, stop) in pieces.iter().chain([&(bulletin.len(), bulletin.len())]) {
+        for (start, stop) in pieces.iter().map(|piece| (piece.start, piece.stop)).chain([(bulletin.len(), bulletin.len())]) {
             out[length..length + start - from].copy_from_slice(&bulletin[from..start]);
             length += start - from;
             from = stop;
         }
-        length
+        (length, pieces.len())
+    }
+
+    // The pieces are shown, each by the filter's rule. Not timed.
+    pub fn filter(bulletin: &[u8], flags: &[u8], out: &mut [u8]) -> (usize, usize) {
+        let mut shown = vec![];
+        let mut from = 0;
+        for piece in pieces(bulletin, flags) {
+            shown.extend(&bulletin[from..piece.start]);
+            crate::filter::write(bulletin, piece.start..piece.stop, piece.block, &mut shown);
+            from = piece.stop;
+        }
+        shown.extend(&bulletin[from..]);
+        out[..shown.len()].copy_from_slice(&shown);
+        (shown.len(), 0)
     }
 }
 
@@ -126,6 +159,10 @@ mod rust {
     }
 
     pub fn withhold(_: &[u8], _: &[u8], _: &mut [u8]) -> (usize, usize) {
+        unreachable!()
+    }
+
+    pub fn filter(_: &[u8], _: &[u8], _: &mut [u8]) -> (usize, usize) {
         unreachable!()
     }
 }
@@ -309,10 +346,31 @@ fn bulletins() -> Vec<(String, OfLength)> {
         all.push((what.to_string(), Box::new(move |length| repeated("", unit, "", length))));
     }
     for unit in ["<?", "<!--", "<![CDATA[", "<!a", "<a b=\"<a b='"] {
-        all.push((format!("`{unit}`, in a paragraph"), Box::new(move |length| repeated("x", unit, "", length))));
-        all.push((format!("`{unit}`, at the front"), Box::new(move |length| repeated("", unit, "", length))));
+        all.push(again(unit, "in a paragraph", "x"));
+        all.push(again(unit, "at the front", ""));
     }
     all
+}
+
+// A unit again and again, behind what takes it to its place.
+fn again(unit: &'static str, place: &str, front: &'static str) -> (String, OfLength) {
+    (format!("`{unit}`, {place}"), Box::new(move |length| repeated(front, unit, "", length)))
+}
+
+// What is filtered: the same, and the filter's tags, whole and broken.
+fn filtered_bulletins() -> Vec<(String, OfLength)> {
+    let mut all = bulletins();
+    for unit in ["<xmp>", "<xmp", "</", "<title", "<div><", "<xmp/"] {
+        all.push(again(unit, "in a paragraph", "x"));
+        all.push(again(unit, "in a block", "<div>"));
+    }
+    all
+}
+
+// What has none of these tags, to be filtered with no more room than it has bytes: what is shown is then counted first.
+fn counted_bulletins() -> Vec<(String, OfLength)> {
+    let some = bulletins().into_iter().filter(|(what, _)| what == "prose" || what == "table of tags, blocks");
+    some.map(|(what, bulletin)| (format!("{what}, exact room"), bulletin)).collect()
 }
 
 // ---- tables
@@ -399,45 +457,68 @@ fn scan_table(title: &str, lines: &[Line]) {
     }
 }
 
-type Withhold = fn(&[u8], &[u8], &mut [u8]) -> (usize, usize);
+// What withholding or the filter shows: the length, and the number of pieces where it counts them.
+type Screen = fn(&[u8], &[u8], &mut [u8]) -> (usize, usize);
 
-fn withhold_lines(sides: &[Withhold]) -> Vec<Line> {
+// The library's side, and where it is there the Rust's; of them so many are timed.
+struct Screens<'a> {
+    what: &'static str,
+    sides: &'a [Screen],
+    timed: usize,
+    // Of the output buffer, by the bulletin's length.
+    room: fn(usize) -> usize,
+}
+
+fn screen_lines(screens: &Screens, bulletins: Vec<(String, OfLength)>) -> Vec<Line> {
     let mut lines = vec![];
-    for (what, bulletin) in bulletins() {
+    for (what, bulletin) in bulletins {
         let mut works = vec![];
         let mut shown: Vec<Vec<_>> = vec![];
-        for &withhold in sides {
+        for (side, &screen) in screens.sides.iter().enumerate() {
             let mut all = vec![];
             for text in LENGTHS.map(&bulletin) {
                 let flags = flags(&text);
-                let mut out = vec![0; text.len()];
-                all.push((withhold(&text, &flags, &mut out), out.clone()));
-                works.push(Work::new(move || {
-                    black_box(withhold(black_box(&text), black_box(&flags), black_box(&mut out)));
-                }));
+                let mut out = vec![0; (screens.room)(text.len())];
+                all.push((screen(&text, &flags, &mut out), out.clone()));
+                if side < screens.timed {
+                    works.push(Work::new(move || {
+                        black_box(screen(black_box(&text), black_box(&flags), black_box(&mut out)));
+                    }));
+                }
             }
             shown.push(all);
         }
-        assert!(shown.iter().all(|all| *all == shown[0]), "withhold, {what}: the answers differ");
+        assert!(shown.iter().all(|all| *all == shown[0]), "{}, {what}: the answers differ", screens.what);
         lines.push(Line { what, bytes: LENGTHS[2], scans: 0, taken: 0, works });
     }
     lines
+}
+
+// The times of three lengths from a work on, and of each the ratio to the one before.
+fn times(line: &Line, first: usize) -> [String; 2] {
+    let side: Option<Vec<f64>> = (first..first + 3).map(|i| line.took(i)).collect();
+    side.map_or(["-".to_string(), "-".to_string()], |took| {
+        let micros: Vec<String> = took.iter().map(|t| digits(t * 1e6)).collect();
+        [micros.join(" / "), format!("{:.2} {:.2}", took[1] / took[0], took[2] / took[1])]
+    })
 }
 
 fn withhold_table(lines: &[Line]) {
     head(&["withhold", "library, µs", "doubling", "Rust, µs", "doubling", "library, MB/s", "Rust, MB/s", "times"]);
     for line in lines {
         let mut cells = vec![line.what.clone()];
-        for first in [0, 3] {
-            let side: Option<Vec<f64>> = (first..first + 3).map(|i| line.took(i)).collect();
-            let micros = |took: &Vec<f64>| took.iter().map(|t| digits(t * 1e6)).collect::<Vec<_>>().join(" / ");
-            let doubling = |took: &Vec<f64>| format!("{:.2} {:.2}", took[1] / took[0], took[2] / took[1]);
-            cells.push(side.as_ref().map_or("-".to_string(), micros));
-            cells.push(side.as_ref().map_or("-".to_string(), doubling));
-        }
+        cells.extend([0, 3].into_iter().flat_map(|first| times(line, first)));
         let rate = |i: usize| line.took(i).map(|took| megabytes(line.bytes, took));
         cells.extend([cell(rate(2)), cell(rate(5)), cell(line.took(5).map(|rust| rust / line.works[2].least))]);
         row(&cells);
+    }
+}
+
+fn filter_table(lines: &[Line]) {
+    head(&["filter", "library, µs", "doubling", "library, MB/s"]);
+    for line in lines {
+        let [micros, doubling] = times(line, 0);
+        row(&[line.what.clone(), micros, doubling, digits(megabytes(line.bytes, line.works[2].least))]);
     }
 }
 
@@ -452,19 +533,26 @@ fn main() {
     let sides = if cfg!(reference) { 2 } else { 1 };
     let inlines: [Scan; 2] = [|text, _, index| library::inline(text, index), |text, _, index| rust::inline(text, index)];
     let blocks: [Scan; 2] = [library::block, rust::block];
-    let withholds: [Withhold; 2] = [library::withhold, rust::withhold];
+    let withholds: [Screen; 2] = [library::withhold, rust::withhold];
+    let filters: [Screen; 2] = [library::filter, rust::filter];
+    let withholding = Screens { what: "withhold", sides: &withholds[..sides], timed: sides, room: |length| length };
+    let filtering = Screens { what: "filter", sides: &filters[..sides], timed: 1, room: |length| length * 8 / 5 };
+    let counting = Screens { room: |length| length, ..filtering };
 
     let mut copy = memcpy();
     let mut inline = scan_lines(inline_scans(), &inlines[..sides]);
     let mut block = scan_lines(block_scans(), &blocks[..sides]);
-    let mut withhold = withhold_lines(&withholds[..sides]);
+    let mut withhold = screen_lines(&withholding, bulletins());
+    let mut filter = screen_lines(&filtering, filtered_bulletins());
+    filter.extend(screen_lines(&counting, counted_bulletins()));
     for _ in 0..PASSES {
         copy.pass();
-        inline.iter_mut().chain(&mut block).chain(&mut withhold).for_each(Line::pass);
+        inline.iter_mut().chain(&mut block).chain(&mut withhold).chain(&mut filter).for_each(Line::pass);
     }
 
     println!("memcpy of 16,000 bytes: {} MB/s", commas(megabytes(copy.bytes, copy.works[0].least)));
     scan_table("inline scan", &inline);
     scan_table("block scan", &block);
     withhold_table(&withhold);
+    filter_table(&filter);
 }

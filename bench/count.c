@@ -1,6 +1,7 @@
 /*
  * One call again and again, for bench/count.sh and bench/place.sh: 'count INPUT' scans or withholds 16,000 bytes 200 times, and writes what the answers add up to;
  * 'count INPUT time' does so 100 times, and writes the least time of a call in microseconds. An input that begins with '=' is a unit, to be withheld again and again.
+ * With 'filter:' in front of an input it is filtered. It ends with status 2 where there is no such input, and with 3 where the library has no filter.
  */
 #include "foringamo.h"
 
@@ -8,9 +9,12 @@
 #include <string.h>
 #include <time.h>
 
-enum { LENGTH = 16000, ROUNDS = 200, TIMES = 100, LINE = 73 };
+/* So that an archive from before the filter can be linked too, and counted beside today's. An archive is one object, and a filter in it is found. */
+#pragma weak foringamo_filter
 
-static uint8_t text[LENGTH], flags[LENGTH + 1], out[LENGTH];
+enum { LENGTH = 16000, FILTERED = LENGTH * 8 / 5, ROUNDS = 200, TIMES = 100, LINE = 73 };
+
+static uint8_t text[LENGTH], flags[LENGTH + 1], out[FILTERED];
 static size_t lines = 1;
 
 /* A unit again and again. */
@@ -19,14 +23,6 @@ static void repeat(const char *unit)
     size_t size = strlen(unit);
     for (size_t i = 0; i < LENGTH; i++)
         text[i] = (uint8_t)unit[i % size];
-}
-
-/* A unit again and again between an opening and a closer. */
-static void enclose(const char *opening, const char *unit, const char *closer)
-{
-    repeat(unit);
-    memcpy(text, opening, strlen(opening));
-    memcpy(text + LENGTH - strlen(closer), closer, strlen(closer));
 }
 
 static size_t scans(void)
@@ -45,6 +41,55 @@ static size_t withholds(void)
 {
     foringamo_shown answer = foringamo_withhold(text, LENGTH, flags, lines, out, LENGTH);
     return answer.refusal + answer.pieces + answer.length;
+}
+
+static size_t filters(void)
+{
+    foringamo_written answer = foringamo_filter(text, LENGTH, flags, lines, out, FILTERED);
+    return answer.refusal + answer.length;
+}
+
+/* A unit again and again between an opening and a closer, with a line ending at each multiple of `line` where that is not 0. */
+static const struct input {
+    const char *name, *opening, *unit, *closer;
+    size_t line;
+    size_t (*call)(void);
+} inputs[] = {
+    {"comment", "<!--", "x", "-->", 0, scans},
+    {"value", "<a b=\"", "x", "\">", 0, scans},
+    {"attributes", "<a ", "b=c d ", ">", 0, scans},
+    {"prose", "", "the quick brown fox ", "", LINE, withholds},
+    {"tags", "", "a <b>x</b> <i>y</i> z\n", "", 0, withholds},
+    {"blocks", "", "<td>x</td>\n\n", "", 0, withholds},
+    {"late", "", "<ul>\n\n<track>\n\n<title>\n\n", "", 0, withholds},
+    {"lines", "", "<b\n", "", 0, withholds},
+    {"table", "", "<table>\n<tr><td>4</td><td>open</td></tr>\n<tr><td>5</td><td>shut</td></tr>\n</table>\n\n", "", 0, withholds},
+    {"row", "", "Row <tr><td>4</td><td class=\"a\">open</td></tr>\n", "", 0, withholds},
+    {"raw", "", "<pre>x</pre>\n", "", 0, withholds},
+    {"marks", "", "<?", "", 0, withholds},
+    {"xmp", "", "<xmp>", "", 0, withholds},
+    {"long", "<div>\n", "the stairs are shut until noon\n", "</div>", 0, finds_block},
+};
+
+/* The input of a name, or of a unit behind '='. Its unit is empty where there is none. */
+static struct input named(const char *name)
+{
+    struct input of_unit = {name, "", *name == '=' ? name + 1 : "", "", 0, withholds};
+    for (size_t i = 0; i < sizeof inputs / sizeof *inputs; i++)
+        if (!strcmp(name, inputs[i].name))
+            return inputs[i];
+    return of_unit;
+}
+
+static void fill(const struct input *input)
+{
+    repeat(input->unit);
+    memcpy(text, input->opening, strlen(input->opening));
+    memcpy(text + LENGTH - strlen(input->closer), input->closer, strlen(input->closer));
+    for (size_t i = input->line; i > 0 && i < LENGTH; i += input->line)
+        text[i] = '\n';
+    for (size_t i = 0; i < LENGTH; i++)
+        lines += text[i] == '\n';
 }
 
 static size_t rounds(size_t (*call)(void))
@@ -72,57 +117,19 @@ static double least(size_t (*call)(void))
 
 int main(int count, char **words)
 {
-    const char *input = count > 1 ? words[1] : "";
-    size_t (*call)(void) = scans;
-    if (!strcmp(input, "comment")) {
-        enclose("<!--", "x", "-->");
-    } else if (!strcmp(input, "value")) {
-        enclose("<a b=\"", "x", "\">");
-    } else if (!strcmp(input, "attributes")) {
-        enclose("<a ", "b=c d ", ">");
-    } else if (!strcmp(input, "prose")) {
-        repeat("the quick brown fox ");
-        for (size_t i = LINE; i < LENGTH; i += LINE)
-            text[i] = '\n';
-        call = withholds;
-    } else if (!strcmp(input, "tags")) {
-        repeat("a <b>x</b> <i>y</i> z\n");
-        call = withholds;
-    } else if (!strcmp(input, "blocks")) {
-        repeat("<td>x</td>\n\n");
-        call = withholds;
-    } else if (!strcmp(input, "late")) {
-        repeat("<ul>\n\n<track>\n\n<title>\n\n");
-        call = withholds;
-    } else if (!strcmp(input, "lines")) {
-        repeat("<b\n");
-        call = withholds;
-    } else if (!strcmp(input, "table")) {
-        repeat("<table>\n<tr><td>4</td><td>open</td></tr>\n<tr><td>5</td><td>shut</td></tr>\n</table>\n\n");
-        call = withholds;
-    } else if (!strcmp(input, "row")) {
-        repeat("Row <tr><td>4</td><td class=\"a\">open</td></tr>\n");
-        call = withholds;
-    } else if (!strcmp(input, "raw")) {
-        repeat("<pre>x</pre>\n");
-        call = withholds;
-    } else if (!strcmp(input, "marks")) {
-        repeat("<?");
-        call = withholds;
-    } else if (!strcmp(input, "long")) {
-        enclose("<div>\n", "the stairs are shut until noon\n", "</div>");
-        call = finds_block;
-    } else if (input[0] == '=' && input[1]) {
-        repeat(input + 1);
-        call = withholds;
-    } else {
+    const char *name = count > 1 ? words[1] : "", *filter = "filter:";
+    int filtered = !strncmp(name, filter, strlen(filter));
+    struct input input = named(filtered ? name + strlen(filter) : name);
+    if (!*input.unit)
         return 2;
-    }
-    for (size_t i = 0; i < LENGTH; i++)
-        lines += text[i] == '\n';
+    if (filtered && !foringamo_filter)
+        return 3;
+    if (filtered)
+        input.call = filters;
+    fill(&input);
     if (count == 3 && !strcmp(words[2], "time"))
-        printf("%.2f\n", least(call));
+        printf("%.2f\n", least(input.call));
     else
-        printf("%zu\n", rounds(call));
+        printf("%zu\n", rounds(input.call));
     return 0;
 }

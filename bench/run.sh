@@ -1,5 +1,5 @@
 #!/usr/bin/env bash
-# Measures the scans and withholding: the library, and the Rust. Prints the tables of docs/BENCHMARK.md.
+# Measures the scans, withholding and the tag filter: the library, and the Rust. Prints the tables of docs/BENCHMARK.md.
 #
 #     bench/run.sh
 #

@@ -1,11 +1,12 @@
-//! One comparison of each kind: what the Rust and 01's table say against what
-//! the library says.
+//! One comparison of each kind: what the Rust, 01's table and the rules of 02 say
+//! against what the library says.
 
 use crate::closer;
+use crate::filter;
 use crate::hex::to_hex;
 use crate::library;
 use crate::table;
-use crate::withhold;
+use crate::withhold::{self, Pieces};
 use std::fmt::Debug;
 
 /// What an output buffer holds before each call.
@@ -123,8 +124,8 @@ fn refuses<T: Debug + PartialEq + Copy>(
     Ok(())
 }
 
-fn no_trace(refusal: u8) -> library::Trace {
-    library::Trace { refusal, length: 0 }
+fn nothing_written(refusal: u8) -> library::Written {
+    library::Written { refusal, length: 0 }
 }
 
 /// An inline scan, its trace, and the trace's records.
@@ -140,7 +141,7 @@ pub fn inline(text: &[u8], index: usize, carry: u8, work: &mut Work) -> Outcome 
             stop: 0,
         };
         same("the inline scan", wanted, given)?;
-        refuses(&mut work.out, no_trace(refusal), trace)?;
+        refuses(&mut work.out, nothing_written(refusal), trace)?;
         return Ok(false);
     }
 
@@ -172,7 +173,7 @@ pub fn block(bulletin: &[u8], flags: &[u8], index: usize, work: &mut Work) -> Ou
             closer: 0,
         };
         same("the block scan", wanted, given)?;
-        refuses(&mut work.out, no_trace(refusal), trace)?;
+        refuses(&mut work.out, nothing_written(refusal), trace)?;
         return Ok(false);
     }
 
@@ -200,12 +201,12 @@ pub fn block(bulletin: &[u8], flags: &[u8], index: usize, work: &mut Work) -> Ou
 /// The trace of a scan, and each record of it.
 fn traced(
     trace: &[u8],
-    call: impl FnMut(&mut [u8]) -> library::Trace,
+    call: impl FnMut(&mut [u8]) -> library::Written,
     work: &mut Work,
 ) -> Result<(), Difference> {
     let length = trace.len();
-    let wanted = library::Trace { refusal: 0, length };
-    let refused = no_trace(table::NO_ROOM);
+    let wanted = library::Written { refusal: 0, length };
+    let refused = nothing_written(table::NO_ROOM);
     writes(work, trace, 0, wanted, refused, call)?;
 
     work.traces += 1;
@@ -250,28 +251,74 @@ pub fn read(trace: &[u8], number: usize) -> Outcome {
     Ok(wanted.refusal == 0)
 }
 
+/// A bulletin with its flags: the refusal by 01's table and, where there is none,
+/// the pieces by the Rust's scans.
+pub struct Screen<'a> {
+    bulletin: &'a [u8],
+    flags: &'a [u8],
+    refusal: u8,
+    pieces: Pieces,
+}
+
+impl Screen<'_> {
+    pub fn new<'a>(bulletin: &'a [u8], flags: &'a [u8], work: &mut Work) -> Screen<'a> {
+        let refusal = table::bulletin(bulletin, flags);
+        let pieces = if refusal == 0 {
+            withhold::pieces(bulletin, flags)
+        } else {
+            Pieces::default()
+        };
+        work.scans += pieces.scans;
+        Screen {
+            bulletin,
+            flags,
+            refusal,
+            pieces,
+        }
+    }
+}
+
 /// Withholding.
-pub fn withhold(bulletin: &[u8], flags: &[u8], work: &mut Work) -> Outcome {
+pub fn withhold(screen: &Screen, work: &mut Work) -> Outcome {
     let nothing = |refusal| library::Shown {
         refusal,
         length: 0,
         pieces: 0,
     };
-    let call = |out: &mut [u8]| library::withhold(bulletin, flags, out);
-    let refusal = table::bulletin(bulletin, flags);
-    if refusal != 0 {
-        refuses(&mut work.out, nothing(refusal), call)?;
+    let call = |out: &mut [u8]| library::withhold(screen.bulletin, screen.flags, out);
+    if screen.refusal != 0 {
+        refuses(&mut work.out, nothing(screen.refusal), call)?;
         return Ok(false);
     }
 
-    let shown = withhold::withhold(bulletin, flags);
-    work.scans += shown.scans;
+    let shown = screen.pieces.withheld(screen.bulletin);
     let wanted = library::Shown {
         refusal: 0,
-        length: shown.bytes.len(),
-        pieces: shown.pieces,
+        length: shown.len(),
+        pieces: screen.pieces.all.len(),
     };
     let refused = nothing(table::NO_ROOM);
-    writes(work, &shown.bytes, bulletin.len(), wanted, refused, call)?;
-    Ok(shown.pieces > 0)
+    writes(work, &shown, screen.bulletin.len(), wanted, refused, call)?;
+    Ok(wanted.pieces > 0)
+}
+
+/// The tag filter. Where something is found, a tag is replaced.
+pub fn filter(screen: &Screen, work: &mut Work) -> Outcome {
+    let bulletin = screen.bulletin;
+    let call = |out: &mut [u8]| library::filter(bulletin, screen.flags, out);
+    if screen.refusal != 0 {
+        refuses(&mut work.out, nothing_written(screen.refusal), call)?;
+        return Ok(false);
+    }
+
+    let shown = screen.pieces.replaced(bulletin, |piece, out| {
+        filter::write(bulletin, piece.range.clone(), piece.block, out);
+    });
+    let length = shown.len();
+    let wanted = library::Written { refusal: 0, length };
+    let refused = nothing_written(table::NO_ROOM);
+    // The shortest such tag, `<xmp>`, has five bytes and becomes eight: so much
+    // room always suffices.
+    writes(work, &shown, bulletin.len() * 8 / 5, wanted, refused, call)?;
+    Ok(length > bulletin.len())
 }

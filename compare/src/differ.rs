@@ -4,8 +4,10 @@
 //!     differ [--seed N] [--count N | --long] [--threads N]
 //!
 //! Compared are the answers of both scans with kind, stop, closer and carry,
-//! all trace bytes, each record read back, withholding, and every refusal; the
-//! closer also with the plain rule (closer.rs).
+//! all trace bytes, each record read back, withholding, the tag filter, and every
+//! refusal; the closer also with the plain rule (closer.rs). The filter is held
+//! against its plain rule (filter.rs) over the pieces of withholding, which the
+//! Rust's scans give (withhold.rs).
 //! Inputs are taken exhaustively over small alphabets (families.rs), the same
 //! in every run, and at random (fragments.rs), N texts from the seed. Where the
 //! two differ, the shortest input found is shown, and the status is 1. The last
@@ -14,6 +16,7 @@
 mod check;
 mod closer;
 mod families;
+mod filter;
 mod fragments;
 mod generator;
 #[allow(dead_code)]
@@ -23,7 +26,7 @@ mod shrink;
 mod table;
 mod withhold;
 
-use check::{Outcome, Work};
+use check::{Outcome, Screen, Work};
 use families::{Family, Kind};
 use generator::Random;
 use reference::{flow_states, take_visited, text_states, Visited, CLASSES};
@@ -37,6 +40,9 @@ use std::time::Instant;
 /// Random texts where no count is given, and in the long form.
 const COUNT: u64 = 1_000_000;
 const LONG_COUNT: u64 = 10_000_000;
+
+/// So many random texts come with a bulletin that has the filter's names.
+const TAGGED: usize = 8;
 
 /// How many inputs a job takes.
 const OF_FAMILY: u64 = 512;
@@ -53,10 +59,12 @@ enum Row {
     WrongTraces,
     WithholdAll,
     WithholdRandom,
+    FilterAll,
+    FilterRandom,
     Refusals,
 }
 
-const ROWS: [&str; 9] = [
+const ROWS: [&str; 11] = [
     "inline scans and traces, exhaustive",
     "inline scans and traces, random",
     "block scans and traces, exhaustive",
@@ -65,8 +73,14 @@ const ROWS: [&str; 9] = [
     "records of wrong traces, random",
     "withholding, exhaustive",
     "withholding, random",
+    "tag filter, exhaustive",
+    "tag filter, random",
     "refusals, random",
 ];
+
+/// The rows of what is made of a bulletin's pieces: withholding and the filter.
+const SCREENS_ALL: [Row; 2] = [Row::WithholdAll, Row::FilterAll];
+const SCREENS_RANDOM: [Row; 2] = [Row::WithholdRandom, Row::FilterRandom];
 
 /// What one row counts.
 #[derive(Clone, Default)]
@@ -100,6 +114,13 @@ impl Tally {
         }
     }
 
+    /// One more input of each of the rows.
+    fn input(&mut self, rows: &[Row]) {
+        for row in rows {
+            self.rows[*row as usize].inputs += 1;
+        }
+    }
+
     /// Count a comparison; a difference is kept with its input.
     fn count(&mut self, row: Row, outcome: Outcome, ask: impl FnOnce() -> Ask) {
         match outcome {
@@ -126,7 +147,7 @@ impl Tally {
         self.refused[usize::from(table::NO_ROOM)] += take(&mut self.work.short);
         let scans = take(&mut self.work.scans);
         self.rows[row as usize].scans += match row {
-            Row::WrongTraces | Row::Refusals => 1,
+            Row::WrongTraces | Row::Refusals | Row::FilterAll | Row::FilterRandom => 1,
             _ => scans,
         };
         let records = &mut self.rows[Row::Records as usize];
@@ -157,15 +178,26 @@ impl Tally {
         });
     }
 
-    fn withhold(&mut self, row: Row, bulletin: &[u8], flags: &[u8]) {
-        let outcome = check::withhold(bulletin, flags, &mut self.work);
-        self.count(row, outcome, || Ask {
-            kind: Kind::Withhold,
+    /// Withholding and the filter, each in its row, over the same pieces. The
+    /// Rust's scans count in the first.
+    fn screen(&mut self, rows: [Row; 2], bulletin: &[u8], flags: &[u8]) {
+        let ask = |kind| Ask {
+            kind,
             bytes: bulletin.to_vec(),
             flags: flags.to_vec(),
             index: 0,
             carry: 0,
-        });
+        };
+        let screen = Screen::new(bulletin, flags, &mut self.work);
+        let outcome = check::withhold(&screen, &mut self.work);
+        self.count(rows[0], outcome, || ask(Kind::Withhold));
+        let outcome = check::filter(&screen, &mut self.work);
+        self.count(rows[1], outcome, || ask(Kind::Filter));
+    }
+
+    fn random_screen(&mut self, bulletin: &[u8], flags: &[u8]) {
+        self.input(&SCREENS_RANDOM);
+        self.screen(SCREENS_RANDOM, bulletin, flags);
     }
 
     fn read(&mut self, row: Row, trace: &[u8], number: usize) {
@@ -255,7 +287,7 @@ fn family(family: &Family, numbers: Range<u64>, tally: &mut Tally) {
         match family.kind {
             Kind::Inline => {
                 let row = Row::InlineAll;
-                tally.rows[row as usize].inputs += 1;
+                tally.input(&[row]);
                 if !family.everywhere {
                     tally.inline(row, &text, 0, 0);
                     continue;
@@ -268,7 +300,7 @@ fn family(family: &Family, numbers: Range<u64>, tally: &mut Tally) {
             }
             Kind::Block => {
                 let row = Row::BlockAll;
-                tally.rows[row as usize].inputs += 1;
+                tally.input(&[row]);
                 let starts = line_starts(&text);
                 for flags in flag_sets(starts.len(), family.everywhere, number) {
                     for index in &starts {
@@ -277,13 +309,12 @@ fn family(family: &Family, numbers: Range<u64>, tally: &mut Tally) {
                 }
             }
             Kind::Withhold => {
-                let row = Row::WithholdAll;
-                tally.rows[row as usize].inputs += 1;
+                tally.input(&SCREENS_ALL);
                 for flags in flag_sets(line_starts(&text).len(), family.everywhere, number) {
-                    tally.withhold(row, &text, &flags);
+                    tally.screen(SCREENS_ALL, &text, &flags);
                 }
             }
-            Kind::Read => unreachable!("no family has traces"),
+            Kind::Filter | Kind::Read => unreachable!("no family is of this kind"),
         }
     }
 }
@@ -295,14 +326,16 @@ fn at_random(seed: u64, count: u64, tally: &mut Tally) {
         let starts = line_starts(&text);
         let flags = fragments::flags(random, starts.len());
 
-        tally.rows[Row::BlockRandom as usize].inputs += 1;
+        tally.input(&[Row::BlockRandom]);
         for index in some_of(random, &starts) {
             tally.block(Row::BlockRandom, &text, &flags, index);
         }
         // In a long text the Rust takes its time: now and then.
         if text.len() < 1000 || random.once_in(8) {
-            tally.rows[Row::WithholdRandom as usize].inputs += 1;
-            tally.withhold(Row::WithholdRandom, &text, &flags);
+            tally.random_screen(&text, &flags);
+        }
+        if random.once_in(TAGGED) {
+            tagged(random, tally);
         }
 
         let inline = fragments::without_blank_lines(&text);
@@ -313,7 +346,7 @@ fn at_random(seed: u64, count: u64, tally: &mut Tally) {
         } as u8;
         let mut indices: Vec<usize> = (0..inline.len()).filter(|at| inline[*at] == b'<').collect();
         indices.push(random.below(inline.len() + 1));
-        tally.rows[Row::InlineRandom as usize].inputs += 1;
+        tally.input(&[Row::InlineRandom]);
         for index in some_of(random, &indices) {
             tally.inline(Row::InlineRandom, &inline, index, carry);
         }
@@ -325,6 +358,13 @@ fn at_random(seed: u64, count: u64, tally: &mut Tally) {
             refusal(random, &text, tally);
         }
     }
+}
+
+/// A bulletin with the filter's names.
+fn tagged(random: &mut Random, tally: &mut Tally) {
+    let text = fragments::tagged(random);
+    let flags = fragments::flags(random, line_starts(&text).len());
+    tally.random_screen(&text, &flags);
 }
 
 /// All where they are few, else some.
@@ -359,7 +399,7 @@ fn wrong_trace(random: &mut Random, text: &[u8], flags: &[u8], inline: &[u8], ta
         }
     }
     let row = Row::WrongTraces;
-    tally.rows[row as usize].inputs += 1;
+    tally.input(&[row]);
     for _ in 0..3 {
         let number = match random.below(16) {
             0 => usize::MAX,
@@ -405,20 +445,26 @@ fn refusal(random: &mut Random, text: &[u8], tally: &mut Tally) {
     } else {
         random.below(7) as u8
     };
+    refused(&text, &flags, index, carry, tally);
+}
 
+/// The scans of such an input, withholding and the filter.
+fn refused(text: &[u8], flags: &[u8], index: usize, carry: u8, tally: &mut Tally) {
     let row = Row::Refusals;
     let before = tally.rows[row as usize].found;
-    tally.rows[row as usize].inputs += 1;
+    tally.input(&[row]);
+    let of_bulletin = table::bulletin(text, flags);
     let refusals = [
-        table::inline(&text, index, carry),
-        table::block(&text, &flags, index),
-        table::bulletin(&text, &flags),
+        table::inline(text, index, carry),
+        table::block(text, flags, index),
+        of_bulletin,
+        of_bulletin,
     ];
-    tally.inline(row, &text, index, carry);
-    tally.block(row, &text, &flags, index);
-    // A long text is withheld above.
-    if refusals[2] != 0 || text.len() < 1000 {
-        tally.withhold(row, &text, &flags);
+    tally.inline(row, text, index, carry);
+    tally.block(row, text, flags, index);
+    // A long text is withheld and filtered above.
+    if of_bulletin != 0 || text.len() < 1000 {
+        tally.screen([row, row], text, flags);
     }
     for refusal in refusals {
         tally.refused[usize::from(refusal)] += 1;
@@ -507,8 +553,8 @@ fn main() -> ExitCode {
             println!("{}: a difference", ROWS[row]);
             println!("  {}", ask.describe());
             println!("  {}", difference.what);
-            println!("  the Rust, or 01: {}", difference.wanted);
-            println!("  the library:     {}\n", difference.given);
+            println!("  the Rust, 01 or 02: {}", difference.wanted);
+            println!("  the library:        {}\n", difference.given);
         }
     }
     report(&tally, &options, begun)

@@ -1,14 +1,17 @@
 //! Inputs taken exhaustively. A family is all texts that have one of some
 //! strings at each of a few places.
 
+use crate::filter;
 use reference::{HTML_BLOCK_NAMES, HTML_RAW_NAMES};
 
-/// What is asked of a text.
+/// What is asked of a text. The bulletins of a family that is to be withheld are
+/// filtered too.
 #[derive(Clone, Copy, Debug, Eq, PartialEq)]
 pub enum Kind {
     Inline,
     Block,
     Withhold,
+    Filter,
     Read,
 }
 
@@ -54,6 +57,36 @@ fn letters(all: &[u8]) -> Vec<Vec<u8>> {
 
 fn each_byte() -> Vec<Vec<u8>> {
     (0..=255).map(|one| vec![one]).collect()
+}
+
+/// Each name as it is, with a letter more, fewer or changed, and in both cases.
+fn variations<'a>(of: impl Iterator<Item = &'a &'a str>) -> Vec<Vec<u8>> {
+    let mut names: Vec<Vec<u8>> = vec![];
+    for name in of.map(|name| name.as_bytes()) {
+        names.push(name.to_vec());
+        names.push(name.to_ascii_uppercase());
+        for at in 0..=name.len() {
+            let mut more = name.to_vec();
+            more.insert(at, b'x');
+            names.push(more);
+        }
+        for at in 0..name.len() {
+            for to in b'a'..=b'z' {
+                let mut other = name.to_vec();
+                other[at] = to;
+                names.push(other);
+            }
+            let mut upper = name.to_vec();
+            upper[at] = upper[at].to_ascii_uppercase();
+            names.push(upper);
+            let mut fewer = name.to_vec();
+            fewer.remove(at);
+            names.push(fewer);
+        }
+    }
+    names.sort();
+    names.dedup();
+    names
 }
 
 impl List {
@@ -247,35 +280,10 @@ impl List {
         self.names();
     }
 
-    /// Every block name and raw name, each with a letter more, fewer or changed
-    /// and in both cases, in a tag, and as the end tag of a raw block.
+    /// Every block name and raw name and its variations, in a tag, and as the end
+    /// tag of a raw block.
     fn names(&mut self) {
-        let mut names: Vec<Vec<u8>> = vec![];
-        for name in HTML_BLOCK_NAMES.iter().chain(&HTML_RAW_NAMES) {
-            let name = name.as_bytes();
-            names.push(name.to_vec());
-            names.push(name.to_ascii_uppercase());
-            for at in 0..=name.len() {
-                let mut more = name.to_vec();
-                more.insert(at, b'x');
-                names.push(more);
-            }
-            for at in 0..name.len() {
-                for to in b'a'..=b'z' {
-                    let mut other = name.to_vec();
-                    other[at] = to;
-                    names.push(other);
-                }
-                let mut upper = name.to_vec();
-                upper[at] = upper[at].to_ascii_uppercase();
-                names.push(upper);
-                let mut fewer = name.to_vec();
-                fewer.remove(at);
-                names.push(fewer);
-            }
-        }
-        names.sort();
-        names.dedup();
+        let names = variations(HTML_BLOCK_NAMES.iter().chain(&HTML_RAW_NAMES));
         self.add(
             Kind::Block,
             false,
@@ -336,6 +344,59 @@ impl List {
             4,
         );
     }
+
+    /// Tags with the filter's names, of which not all count: in blocks and
+    /// paragraphs, and in the comments and values there.
+    fn filtered_names(&mut self) {
+        let kind = Kind::Withhold;
+        let names = strings(&filter::NAMES.map(str::as_bytes));
+        let around: [&[u8]; 6] = [b"", b"a ", b"<div>\n", b"<!-- ", b"a <!-- ", b"<a b='"];
+        let behind: [&[u8]; 19] = [
+            b"", b">", b"/>", b" ", b"\t", b"\n", b"\r", b"\r\n", b"/", b"/ >", b"//>", b"x>",
+            b" b>", b">\n\n", b"> -->", b" b='c'>", b" '>", b"\x0c>", b"\n\n>",
+        ];
+        let opens = strings(&[b"<", b"</"]);
+        let parts = vec![strings(&around), opens, names.clone(), strings(&behind)];
+        self.add(kind, false, parts);
+
+        for front in [b"<div>\n<" as &[u8], b"<div>\n</", b"a <"] {
+            let back = strings(&[b">"]);
+            let parts = vec![strings(&[front]), names.clone(), each_byte(), back];
+            self.add(kind, false, parts);
+        }
+
+        let fronts = strings(&[b"<div><", b"a </"]);
+        let others = variations(filter::NAMES.iter());
+        self.add(kind, false, vec![fronts, others, strings(&[b">", b"/>"])]);
+    }
+
+    /// Such tags again and again.
+    fn filtered_runs(&mut self) {
+        let kind = Kind::Withhold;
+        self.runs(
+            kind,
+            true,
+            b"",
+            &strings(&[
+                b"<xmp", b"</Title", b">", b"/>", b"\n", b" ", b"<!--", b"-->", b"<div>",
+            ]),
+            4,
+        );
+        self.runs(
+            kind,
+            true,
+            b"x <a b='",
+            &strings(&[b"<STYLE>", b"</iframe", b"'>", b" ", b"\r", b"<"]),
+            4,
+        );
+        self.runs(
+            kind,
+            true,
+            b"<p><",
+            &strings(&[b"/", b"sCript", b">", b"\r\n", b"\t", b"<", b"x"]),
+            4,
+        );
+    }
 }
 
 /// All families; in the long form runs have one string more.
@@ -347,5 +408,7 @@ pub fn all(long: bool) -> Vec<Family> {
     list.inline();
     list.blocks();
     list.screens();
+    list.filtered_names();
+    list.filtered_runs();
     list.families
 }

@@ -1,5 +1,6 @@
 //! Random texts, made of fragments of raw HTML and of what it is mistaken for.
 
+use crate::filter;
 use crate::generator::Random;
 use reference::{blank, line_end, line_starts, HTML_BLOCK_NAMES, HTML_RAW_NAMES};
 
@@ -40,6 +41,13 @@ const VALUES: [&[u8]; 10] = [
     b"=c/",
     b"='\n'",
     b"=",
+];
+
+/// What makes a name of the filter count, and what does not.
+#[rustfmt::skip]
+const BEHIND: [&[u8]; 19] = [
+    b">", b">", b">", b"/>", b" ", b"\t", b"\n", b"\r", b"\r\n", b" >", b" b='c'>", b"\nb=c>",
+    b"", b"/", b"/ >", b"x>", b"-a>", b"<", b"\x0c>",
 ];
 
 /// A text; now and then one that is about as long as is allowed.
@@ -147,6 +155,46 @@ fn tag(random: &mut Random) -> Vec<u8> {
         piece(random, &mut text);
     }
     text
+}
+
+/// Tags with the filter's names, among openings and other pieces; now and then
+/// again and again, up to the length that is allowed.
+pub fn tagged(random: &mut Random) -> Vec<u8> {
+    let mut text = vec![];
+    if random.once_in(2) {
+        text.extend_from_slice(random.one(&OPENINGS));
+    }
+    for _ in 0..1 + random.below(6) {
+        if random.once_in(3) {
+            piece(random, &mut text);
+        } else {
+            filtered_tag(random, &mut text);
+        }
+    }
+    if random.once_in(8) {
+        mutate(random, &mut text);
+    }
+    if random.once_in(50_000) {
+        let length = 15_900 + random.below(101);
+        return text.into_iter().cycle().take(length).collect();
+    }
+    text
+}
+
+/// A tag with one of the filter's names in some case, or what is almost one.
+fn filtered_tag(random: &mut Random, text: &mut Vec<u8>) {
+    text.extend_from_slice(random.one(&[b"<" as &[u8], b"<", b"</", b"</", b"< ", b"a <", b""]));
+    let from = text.len();
+    text.extend_from_slice(random.one(&filter::NAMES).as_bytes());
+    match random.below(4) {
+        0 => text[from..].make_ascii_uppercase(),
+        1 => {
+            let at = from + random.below(text.len() - from);
+            text[at] = text[at].to_ascii_uppercase();
+        }
+        _ => {}
+    }
+    text.extend_from_slice(random.one(&BEHIND));
 }
 
 /// Up to three bytes deleted, changed, put in or said twice.

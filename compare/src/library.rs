@@ -24,9 +24,10 @@ pub struct Inline {
     pub stop: usize,
 }
 
+/// What a trace or the filter wrote.
 #[repr(C)]
 #[derive(Clone, Copy, Debug, Eq, PartialEq)]
-pub struct Trace {
+pub struct Written {
     pub refusal: u8,
     pub length: usize,
 }
@@ -68,7 +69,7 @@ extern "C" {
         index: usize,
         out: *mut u8,
         out_len: usize,
-    ) -> Trace;
+    ) -> Written;
     fn foringamo_inline_trace(
         text: *const u8,
         text_len: usize,
@@ -76,7 +77,7 @@ extern "C" {
         carry: u8,
         out: *mut u8,
         out_len: usize,
-    ) -> Trace;
+    ) -> Written;
     fn foringamo_read_trace(trace: *const u8, trace_len: usize, number: usize) -> Record;
     fn foringamo_withhold(
         bulletin: *const u8,
@@ -86,6 +87,14 @@ extern "C" {
         out: *mut u8,
         out_len: usize,
     ) -> Shown;
+    fn foringamo_filter(
+        bulletin: *const u8,
+        bulletin_len: usize,
+        flags: *const u8,
+        flags_len: usize,
+        out: *mut u8,
+        out_len: usize,
+    ) -> Written;
 }
 
 // Each call lends whole slices, for the time of the call.
@@ -106,7 +115,7 @@ pub fn inline_scan(text: &[u8], index: usize, carry: u8) -> Inline {
     unsafe { foringamo_inline_scan(text.as_ptr(), text.len(), index, carry) }
 }
 
-pub fn block_trace(bulletin: &[u8], flags: &[u8], index: usize, out: &mut [u8]) -> Trace {
+pub fn block_trace(bulletin: &[u8], flags: &[u8], index: usize, out: &mut [u8]) -> Written {
     unsafe {
         foringamo_block_trace(
             bulletin.as_ptr(),
@@ -120,7 +129,7 @@ pub fn block_trace(bulletin: &[u8], flags: &[u8], index: usize, out: &mut [u8]) 
     }
 }
 
-pub fn inline_trace(text: &[u8], index: usize, carry: u8, out: &mut [u8]) -> Trace {
+pub fn inline_trace(text: &[u8], index: usize, carry: u8, out: &mut [u8]) -> Written {
     unsafe {
         foringamo_inline_trace(
             text.as_ptr(),
@@ -140,6 +149,19 @@ pub fn read_trace(trace: &[u8], number: usize) -> Record {
 pub fn withhold(bulletin: &[u8], flags: &[u8], out: &mut [u8]) -> Shown {
     unsafe {
         foringamo_withhold(
+            bulletin.as_ptr(),
+            bulletin.len(),
+            flags.as_ptr(),
+            flags.len(),
+            out.as_mut_ptr(),
+            out.len(),
+        )
+    }
+}
+
+pub fn filter(bulletin: &[u8], flags: &[u8], out: &mut [u8]) -> Written {
+    unsafe {
+        foringamo_filter(
             bulletin.as_ptr(),
             bulletin.len(),
             flags.as_ptr(),

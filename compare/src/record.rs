@@ -12,6 +12,9 @@
 
 #[allow(dead_code)]
 mod families;
+#[allow(dead_code)]
+mod filter;
+#[allow(dead_code)]
 mod fragments;
 mod generator;
 #[allow(dead_code)]

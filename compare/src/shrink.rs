@@ -1,6 +1,6 @@
 //! An input that differs, and the shortest one found by making it smaller.
 
-use crate::check::{self, Difference, Outcome, Work};
+use crate::check::{self, Difference, Outcome, Screen, Work};
 use crate::families::Kind;
 use crate::hex::to_hex;
 use reference::line_starts;
@@ -25,9 +25,14 @@ impl Ask {
         match self.kind {
             Kind::Inline => check::inline(&self.bytes, self.index, self.carry, work),
             Kind::Block => check::block(&self.bytes, &self.flags, self.index, work),
-            Kind::Withhold => check::withhold(&self.bytes, &self.flags, work),
+            Kind::Withhold => check::withhold(&self.screen(work), work),
+            Kind::Filter => check::filter(&self.screen(work), work),
             Kind::Read => check::read(&self.bytes, self.index),
         }
+    }
+
+    fn screen(&self, work: &mut Work) -> Screen<'_> {
+        Screen::new(&self.bytes, &self.flags, work)
     }
 
     fn difference(&self) -> Option<Difference> {
@@ -46,6 +51,7 @@ impl Ask {
             Kind::Inline => "inline scan",
             Kind::Block => "block scan",
             Kind::Withhold => "withholding",
+            Kind::Filter => "tag filter",
             Kind::Read => "trace reading",
         };
         let mut text = format!(
@@ -59,7 +65,7 @@ impl Ask {
         text += &match self.kind {
             Kind::Inline => format!("\n  index {}, carry {}", self.index, self.carry),
             Kind::Block => format!("\n  flags {:?}, index {}", self.flags, self.index),
-            Kind::Withhold => format!("\n  flags {:?}", self.flags),
+            Kind::Withhold | Kind::Filter => format!("\n  flags {:?}", self.flags),
             Kind::Read => format!("\n  record {}", self.index),
         };
         text
