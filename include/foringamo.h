@@ -43,7 +43,7 @@
 #include <stddef.h>
 #include <stdint.h>
 
-#define FORINGAMO_VERSION "0.4.0"
+#define FORINGAMO_VERSION "0.3.2"
 
 #ifdef __cplusplus
 extern "C" {

@@ -21,6 +21,11 @@ use walk::pieces::Next;
 use walk::pieces::at_line;
 use walk::pieces::next_piece;
 
+// The bytes of the shortest tag that is replaced, `<xmp>`, and of what comes in its place. No bulletin grows by more than this.
+const SHORTEST_TAG: usize = 5;
+
+const SHORTEST_REPLACED: usize = 8;
+
 // Where the places of a piece that can count end: inside a block each counts, of an inline piece only the first byte.
 fn counted_end(start: usize, stop: usize, block: bool) -> usize
     requires { ⌜ start < stop ⌝ }
@@ -120,12 +125,12 @@ fn show(rules: Rules, bulletin: &[u8], flags: &[u8], out: &mut [u8]) -> Output
     Output::Written { length: size }
 }
 
-// Whether a buffer has room for what is shown. No five bytes become more than eight: with so much room, nothing is counted.
+// Whether a buffer has room for what is shown. Where it has room for as much as a bulletin of that length can become, nothing is counted.
 fn has_room(rules: Rules, bulletin: &[u8], flags: &[u8], room: usize) -> bool
     requires { ⌜ length (now bulletin) ≤ limit ⌝ }
     ensures { λ r. ⌜ r ≡ leb (length (filtered rules (now (bulletin .entry)) (now (flags .entry)))) room ⌝ }
 {
-    if bulletin.len() * 8 / 5 <= room {
+    if bulletin.len() * SHORTEST_REPLACED / SHORTEST_TAG <= room {
         return true;
     }
     filtered_length(rules, bulletin, flags) <= room

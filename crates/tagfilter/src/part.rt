@@ -48,7 +48,7 @@ pub(crate) fn part_length(bulletin: &[u8], start: usize, stop: usize) -> usize
 
 // Writes `&lt;` to a place with room for it.
 fn write_entity(out: &mut [u8], at: usize)
-    requires { ⌜ at + 4 ≤ length (now out) ⌝ }
+    requires { ⌜ at + length (bytes "&lt;") ≤ length (now out) ⌝ }
     ensures { λ r. ⌜ Written (now (out .entry)) at (bytes "&lt;") (now (out .exit)) ⌝ }
 {
     out[at] = b'&';
