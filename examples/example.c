@@ -1,5 +1,5 @@
 /*
- * Counts the lines of a bulletin, withholds from it, scans it for a block and an inline piece, and traces a scan.
+ * Counts the lines of a bulletin, withholds from it, scans it for a block and an inline piece, filters tags, and traces a scan.
  *
  *     rt staticlib foringamo
  *     cc -Iinclude -o target/example examples/example.c target/staticlib/libforingamo.a && target/example
@@ -67,6 +67,15 @@ int main(void) {
     } else {
         printf("a piece from 5 to %zu, carry %d\n", piece.stop, piece.carry);
     }
+
+    /* One line, one flag; room for 8/5 of the bytes always suffices. */
+    const uint8_t flag = 0;
+    foringamo_written filtered = foringamo_filter((const uint8_t *)"a <xmp> <b>", 11, &flag, 1, out, sizeof out);
+    if (filtered.refusal != 0) {
+        printf("refused %d\n", filtered.refusal);
+        return 1;
+    }
+    printf("filtered, %zu bytes: %.*s\n", filtered.length, (int)filtered.length, (const char *)out);
 
     foringamo_trace trace = foringamo_inline_trace((const uint8_t *)"<b>", 3, 0, 0, out, sizeof out);
     if (trace.refusal != 0) {

@@ -675,6 +675,16 @@ static void filter_near_names(void) {
     }
 }
 
+/* The rows of README, The tag filter, and of docs/SCOPE.md, GitHub's tag filter, that stand nowhere else here. */
+static void filter_rows(void) {
+    CHECK(becomes("a <xmp> <b>", "a &lt;xmp> <b>"));
+    CHECK(becomes("<div><!-- <SCRIPT> --></div>", "<div><!-- &lt;SCRIPT> --></div>"));
+    CHECK(stays("a <!-- <script> -->"));
+    CHECK(stays("<script"));
+    CHECK(becomes("<strong> <title> <style> <em>", "<strong> &lt;title> &lt;style> <em>"));
+    CHECK(becomes("<div><xmp/><xmp/ ></XMP >", "<div>&lt;xmp/><xmp/ >&lt;/XMP >"));
+}
+
 /* Where a tag counts. */
 static void filter_places(void) {
     /* In a block every place, of an inline piece the first byte. */
@@ -930,6 +940,7 @@ int main(void) {
     filter_names();
     filter_bytes();
     filter_near_names();
+    filter_rows();
     filter_places();
     filter_flags();
     filter_longest();

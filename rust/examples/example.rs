@@ -1,4 +1,4 @@
-//! Counts the lines of a bulletin, withholds from it, scans it for a block and an inline piece, and traces a scan.
+//! Counts the lines of a bulletin, withholds from it, scans it for a block and an inline piece, filters tags, and traces a scan.
 //!
 //!     rt staticlib foringamo
 //!     CARGO_TARGET_DIR=target/cargo cargo run --offline --manifest-path rust/Cargo.toml --example example
@@ -39,6 +39,10 @@ fn run() -> Result<(), Refusal> {
         Inline::Found { stop, carry } => println!("a piece from 5 to {stop}, carry {carry}"),
         Inline::Missing { carry } => println!("no piece at 5, carry {carry}"),
     }
+
+    // One line, one flag; room for 8/5 of the bytes always suffices.
+    let length = foringamo::filter(b"a <xmp> <b>", &[0], &mut out)?;
+    println!("filtered, {length} bytes: {}", String::from_utf8_lossy(&out[..length]));
 
     let length = foringamo::inline_trace(b"<b>", 0, 0, &mut out)?;
     println!("the trace of <b>, {length} bytes:");
