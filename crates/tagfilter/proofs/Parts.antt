@@ -9,7 +9,6 @@ use lib.Dec.{eqb}
 use lib.ListN.{length, getD, set, take, drop, length-append, length-drop}
 use lib.Seq.{drop-drop, take-add, take-all, length-take-le}
 use Rattle.lexical.specs.Text.{byte, bytes, run}
-use Rattle.lexical.specs.Line.{isInner}
 use Rattle.lexical.specs.Buffer.{stored, Written}
 use Rattle.lexical.proofs.Cases.{split, excluded}
 use Rattle.lexical.proofs.Suffix.{suffix-in}
@@ -17,13 +16,11 @@ use Rattle.lexical.proofs.Run.{run-length}
 use Rattle.lexical.proofs.Stores.{nothing-written, then, same, written-as}
 use Rattle.rules.specs.Search.{choose}
 use Rattle.rules.specs.Filter.{isDisallowed}
+use Rattle.walk.specs.Remaining.{isPlain}
 use Rattle.walk.proofs.Paragraphs.{drop-take}
 use Rattle.tagfilter.specs.Part.{replacedPart, replacedBetween, Passed, NextTag, WritesPart}
 
 -- ---- what is no `<`
-abbrev isPlain : ℕ → Bool
-isPlain b = isInner (byte "<") b
-
 pub not-a-tag : (x : ℕ) (xs : List ℕ) → eqb x (byte "<") ≡ false → isDisallowed (x ∷ xs) ≡ false
 unfolding isDisallowed
 not-a-tag x xs e = rw e
@@ -50,9 +47,6 @@ part-bound (suc n) (x ∷ s) = let l = part-bound n s in split (isDisallowed (x 
 
 -- ---- from one index to another
 module _ (text : List ℕ) (stop : ℕ) where
-  pub passed-none : (i : ℕ) → i ≤ stop → Passed text stop i i
-  passed-none i h = record { from = omega arith; to = h; same = let z : i - i ≡ 0 = omega arith in rw z }
-
   pub passed-on : (i j k : ℕ) → Passed text stop i j → Passed text stop j k → Passed text stop i k
   passed-on i j k p q =
       let a = p .from in
