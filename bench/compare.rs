@@ -3,7 +3,7 @@
 //!
 //! Both sides get the same bytes and indices, and their answers are compared before they are timed. The sides, and the lengths of an input, take turns in rounds of
 //! about a millisecond; all inputs are gone through several times, and the least time of all rounds counts, since other work on the machine can only slow a round
-//! down. The filter is timed in the library alone: over the Rust's scans it costs about what withholding does there.
+//! down. The filter is timed in the library alone.
 #![forbid(unsafe_code)]
 
 // The rule by which compare/ judges the filter.

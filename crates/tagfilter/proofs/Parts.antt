@@ -7,17 +7,16 @@ use Prim.Native.Nat.{ℕ, zero, suc, _+_, _*_, _-_, _<_, _≤_}
 use native.Mathlib.Omega.{arith}
 use lib.Dec.{eqb}
 use lib.ListN.{length, getD, set, take, drop, length-append, length-drop}
-use lib.Seq.{drop-drop, take-add, take-all, length-take-le}
+use lib.Seq.{drop-drop, take-all, length-take-le}
 use Rattle.lexical.specs.Text.{byte, bytes, run}
 use Rattle.lexical.specs.Buffer.{stored, Written}
 use Rattle.lexical.proofs.Cases.{split, excluded}
-use Rattle.lexical.proofs.Suffix.{suffix-in}
+use Rattle.lexical.proofs.Suffix.{suffix-in, drop-take, parts}
 use Rattle.lexical.proofs.Run.{run-length}
 use Rattle.lexical.proofs.Stores.{nothing-written, then, same, written-as}
 use Rattle.rules.specs.Search.{choose}
 use Rattle.rules.specs.Filter.{isDisallowed}
 use Rattle.walk.specs.Remaining.{isPlain}
-use Rattle.walk.proofs.Paragraphs.{drop-take}
 use Rattle.tagfilter.specs.Part.{replacedPart, replacedBetween, Passed, NextTag, WritesPart}
 
 -- ---- what is no `<`
@@ -51,19 +50,13 @@ module _ (text : List ℕ) (stop : ℕ) where
   passed-on i j k p q =
       let a = p .from in
       let b = q .from in
-      let z : j - i + (k - j) ≡ k - i = omega arith in
-      let y : i + (j - i) ≡ j = omega arith in
-      let d : drop (j - i) (drop i text) ≡ drop j text = drop-drop (j - i) i text ∙ ap (λ (n : ℕ). drop n text) y in
       let front = take (j - i) (drop i text) in
+      let next = take (k - j) (drop j text) in
+      let more = replacedBetween text k stop in
       record {
         from = omega arith;
         to = q .to;
-        same =
-            p .same
-            ∙ ap (λ (t : List ℕ). front ++ t) (q .same)
-            ∙ sym (append-assoc front (take (k - j) (drop j text)) (replacedBetween text k stop))
-            ∙ ap (λ (t : List ℕ). t ++ replacedBetween text k stop)
-            (ap (λ (t : List ℕ). front ++ take (k - j) t) (sym d) ∙ sym (take-add (j - i) (k - j) (drop i text)) ∙ ap (λ (n : ℕ). take n (drop i text)) z);
+        same = p .same ∙ ap (λ (t : List ℕ). front ++ t) (q .same) ∙ sym (append-assoc front next more) ∙ ap (λ (t : List ℕ). t ++ more) (parts i j k text a b);
       }
 
   -- up to the next `<` of the line

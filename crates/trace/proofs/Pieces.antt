@@ -2,11 +2,11 @@
 use mathlib.Core.Path.{_≡_, refl, sym, _∙_, ap, subst}
 use mathlib.Core.Bool.{Bool, true, false, not}
 use mathlib.Core.List.{List, [], _∷_, _++_}
-use Prim.Native.Nat.{ℕ, zero, suc, _+_, _*_, _-_, _≤_}
+use Prim.Native.Nat.{ℕ, suc, _+_, _*_, _-_, _≤_}
 use native.Mathlib.Omega.{arith}
 use lib.Dec.{eqb}
 use lib.ListN.{length, take, drop, length-append, length-drop}
-use lib.Seq.{drop-drop, take-nil, drop-nil, length-take-le}
+use lib.Seq.{drop-drop, length-take-le}
 use Rattle.lexical.specs.Text.{limit, byte}
 use Rattle.lexical.specs.Byte.{isLineEndingByte}
 use Rattle.lexical.specs.Line.{lineLength}
@@ -14,6 +14,7 @@ use Rattle.lexical.specs.Point.{start, pointAt}
 use Rattle.lexical.specs.declared.event.Point.{Point}
 use Rattle.lexical.proofs.Moves.{point-start}
 use Rattle.lexical.proofs.Run.{run-length}
+use Rattle.lexical.proofs.Suffix.{drop-take}
 use Rattle.rules.specs.Lines.{cutLines}
 use Rattle.rules.specs.Trace.{width, Event, event, pair, pairOf, htmlText, htmlTextData, htmlFlow, htmlFlowData, textEvents, flowEvents, taken, eventBytes, flowExit, lastBytes, inlineTrace, flowTrace}
 use Rattle.rules.specs.Scan.{foundInline}
@@ -45,18 +46,11 @@ module _ (s : List ℕ) (i exit first x : ℕ) (f : first ≡ firstTo s i) (e : 
   pub text-piece-count : length (textPiece s i exit) ≡ 4 + length (restEvents false s x)
   text-piece-count = omega (arith, ap length text-piece, length-append (restEvents false s x) (event (suc htmlText) exit ∷ []))
 
--- the bytes of a text before its stop, from an index on
-front-drop : (text : List ℕ) (i stop : ℕ) → i ≤ stop → take (stop - i) (drop i text) ≡ drop i (take stop text)
-front-drop text zero stop h = let z : stop - 0 ≡ stop = omega arith in rw z
-front-drop [] (suc i) stop h = rw (take-nil (stop - suc i), take-nil stop, drop-nil (suc i))
-front-drop (x ∷ xs) (suc i) zero h = absurd (omega arith)
-front-drop (x ∷ xs) (suc i) (suc stop) h = let e : suc stop - suc i ≡ stop - i = omega arith in rw e (front-drop xs i stop (omega arith))
-
 pub text-events : (text : List ℕ) (i stop : ℕ) → i ≤ stop → textEvents i stop (taken text i stop) ≡ textPiece (take stop text) i stop
 unfolding textEvents textPiece restEvents
 text-events text i stop h =
     let s = drop i (take stop text) in
-    ap (λ t. textEvents i stop (cutLines false [] t)) (front-drop text i stop h)
+    ap (λ t. textEvents i stop (cutLines false [] t)) (sym (drop-take i stop text))
     ∙ rw (cut-first [] s, content-length s, drop-drop (lineLength s) i (take stop text))
 
 -- the trace of a piece that was found; F is the text before the stop
@@ -102,7 +96,7 @@ pub flow-events : (text : List ℕ) (i exit stop : ℕ) → i ≤ stop → flowE
 unfolding flowEvents flowPiece restEvents
 flow-events text i exit stop h =
     let s = drop i (take stop text) in
-    ap (λ t. flowEvents i exit (cutLines false [] t)) (front-drop text i stop h)
+    ap (λ t. flowEvents i exit (cutLines false [] t)) (sym (drop-take i stop text))
     ∙ rw (cut-first [] s, content-length s, run-content (λ b. eqb b (byte " ")) space-apart s, drop-drop (lineLength s) i (take stop text))
 
 -- where a block is left adds no event

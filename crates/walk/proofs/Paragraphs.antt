@@ -3,18 +3,18 @@
 use mathlib.Core.Path.{_≡_, refl, sym, _∙_, ap, subst}
 use mathlib.Core.Bool.{Bool, true, false, _||_, not}
 use mathlib.Core.List.{List, [], _∷_, _++_, append-assoc, append-nil}
-use Prim.Native.Nat.{ℕ, zero, suc, _+_, _-_, _<_, _≤_}
+use Prim.Native.Nat.{ℕ, suc, _+_, _-_, _<_, _≤_}
 use native.Mathlib.Omega.{arith}
 use lib.Dec.{eqb, ltb}
 use lib.ListN.{length, getD, take, drop}
-use lib.Seq.{drop-drop, take-add, take-nil}
+use lib.Seq.{drop-drop}
 use borrow.Author.Tests.{eqb-true, ltb-true, ltb-false, not-true, not-false}
 use Rattle.lexical.specs.Text.{byte, first, run}
 use Rattle.lexical.specs.Byte.{isLineEndingByte, isSpaceOrTab}
 use Rattle.lexical.specs.Name.{all}
 use Rattle.lexical.specs.Line.{lineEnding, lineLength, isBlank}
 use Rattle.lexical.proofs.Cases.{split, clash, and-left, and-right, or-left, or-right}
-use Rattle.lexical.proofs.Suffix.{suffix-next}
+use Rattle.lexical.proofs.Suffix.{suffix-next, drop-take, parts}
 use Rattle.lexical.proofs.Ending.{ending-out}
 use Rattle.rules.specs.Lines.{Line, line}
 use Rattle.rules.specs.Block.{kindOf}
@@ -128,20 +128,6 @@ blank-content (x ∷ s) =
 pub ends-by : (ρ : Rules) (text flags : List ℕ) (i n : ℕ) (b f : Bool) → isBlank (drop i text) ≡ b → not (eqb (kindOf ρ (lineAt text flags i n)) 0) ≡ f
     → endsParagraph ρ (lineAt text flags i n) ≡ (b || f)
 ends-by ρ text flags i n b f h k = ap (λ t. t || not (eqb (kindOf ρ (lineAt text flags i n)) 0)) (blank-content (drop i text) ∙ h) ∙ ap (λ t. b || t) k
-
--- ---- parts of a text
-pub drop-take : (i n : ℕ) (s : List ℕ) → drop i (take n s) ≡ take (n - i) (drop i s)
-drop-take zero n s = let z : n - 0 ≡ n = omega arith in rw z refl
-drop-take (suc i) zero s = let z : zero - suc i ≡ 0 = omega arith in rw z refl
-drop-take (suc i) (suc n) [] = sym (take-nil (suc n - suc i))
-drop-take (suc i) (suc n) (x ∷ s) = let z : suc n - suc i ≡ n - i = omega arith in rw z (drop-take i n s)
-
--- a part and the part behind it
-pub parts : (a b d : ℕ) (s : List ℕ) → a ≤ b → b ≤ d → take (b - a) (drop a s) ++ take (d - b) (drop b s) ≡ take (d - a) (drop a s)
-parts a b d s h k =
-    let m : d - a ≡ (b - a) + (d - b) = omega arith in
-    let n : a + (b - a) ≡ b = omega arith in
-    sym (ap (λ t. take t (drop a s)) m ∙ take-add (b - a) (d - b) (drop a s) ∙ ap (λ t. take (b - a) (drop a s) ++ take (d - b) t) (drop-drop (b - a) a s ∙ ap (λ t. drop t s) n))
 
 module _ (ρ : Rules) (text flags : List ℕ) where
   abbrev L : ℕ → ℕ → List Line

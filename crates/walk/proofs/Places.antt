@@ -13,6 +13,7 @@ use Rattle.lexical.specs.Byte.{isLineEndingByte, isSpaceOrTab}
 use Rattle.lexical.specs.Name.{all}
 use Rattle.lexical.specs.Line.{lineLength, isBlank}
 use Rattle.lexical.proofs.Cases.{split, clash}
+use Rattle.lexical.proofs.Suffix.{drop-take}
 use Rattle.rules.specs.Block.{kindOf}
 use Rattle.rules.specs.Withhold.{Piece, Which, piece, inline, inlinePieces}
 use Rattle.rules.specs.declared.Rules.{Rules}
@@ -24,7 +25,7 @@ use Rattle.walk.specs.declared.paragraph.End.{End}
 use Rattle.walk.specs.declared.pieces.Cursor.{Cursor}
 use Rattle.walk.proofs.Ahead.{known-all}
 use Rattle.walk.proofs.FromLine.{ending-there, line-ended}
-use Rattle.walk.proofs.Paragraphs.{noOpen, plain-closed, plain-length, plain-line, blank-content, drop-take}
+use Rattle.walk.proofs.Paragraphs.{noOpen, plain-closed, plain-length, plain-line, blank-content}
 use Rattle.walk.proofs.InlineSteps.{skipped}
 
 -- ---- the first `<` of a line
