@@ -1,5 +1,5 @@
 #!/usr/bin/env bash
-# Counts instructions, which are the same however busy the machine is: thirteen inputs of 16,000 bytes that are scanned or withheld, and four that are filtered,
+# Counts instructions, which are the same however busy the machine is: fourteen inputs of 16,000 bytes that are scanned or withheld, and four that are filtered,
 # each 200 times.
 #
 #     bench/count.sh [ARCHIVE..]
@@ -17,7 +17,7 @@ mkdir -p "$built" || exit 1
 for i in "${!archives[@]}"; do
     build "$built/count$i" "${archives[i]}" || exit 1
 done
-inputs=(comment value attributes prose tags blocks late lines table row raw marks long filter:prose filter:table filter:tags filter:xmp)
+inputs=(comment value attributes prose tags blocks late lines table row raw marks xmp long filter:prose filter:table filter:tags filter:xmp)
 for input in "${inputs[@]}"; do
     counts= answers=
     for i in "${!archives[@]}"; do

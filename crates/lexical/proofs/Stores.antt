@@ -1,12 +1,12 @@
 -- Laws of bytes stored one behind the other in a buffer: stores behind stores, the whole buffer afterwards, and a loop that copies.
 use mathlib.Core.Path.{_≡_, refl, sym, _∙_, ap}
 use mathlib.Core.List.{List, [], _∷_, _++_}
-use Prim.Native.Nat.{ℕ, suc, _+_, _<_, _≤_}
+use Prim.Native.Nat.{ℕ, suc, _+_, _-_, _<_, _≤_}
 use native.Mathlib.Omega.{arith}
 use native.Mathlib.Nat.{zero-add}
 use native.Mathlib.Numerals.{add-one}
-use lib.ListN.{length, getD, set, drop, length-set}
-use lib.Seq.{sets, length-sets, sets-eq}
+use lib.ListN.{length, getD, set, take, drop, length-set}
+use lib.Seq.{sets, length-sets, sets-eq, take-all}
 use Rattle.lexical.specs.Buffer.{stored, Written}
 use Rattle.lexical.proofs.Suffix.{suffix-in, suffix-out}
 
@@ -65,3 +65,7 @@ then {l} {m} {n} {i} {j} {a} {b} e v w = record { is = w .is ∙ ap (λ k. store
 -- the same bytes by another name
 pub written-as : {l m : List ℕ} {i : ℕ} {a : List ℕ} (b : List ℕ) → b ≡ a → Written l i a m → Written l i b m
 written-as {l} {m} {i} {a} b e w = record { is = w .is ∙ ap (stored l i) (sym e) }
+
+-- what is written as far as there is room, and has room, is written whole
+pub written-whole : {l m : List ℕ} {i : ℕ} (bs : List ℕ) → i + length bs ≤ length l → Written l i (take (length l - i) bs) m → Written l i bs m
+written-whole {l} {m} {i} bs h w = written-as bs (sym (take-all (length l - i) bs (omega arith))) w

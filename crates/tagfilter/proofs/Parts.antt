@@ -7,13 +7,13 @@ use Prim.Native.Nat.{ℕ, zero, suc, _+_, _*_, _-_, _<_, _≤_}
 use native.Mathlib.Omega.{arith}
 use lib.Dec.{eqb}
 use lib.ListN.{length, getD, set, take, drop, length-append, length-drop}
-use lib.Seq.{drop-drop, take-all, length-take-le}
+use lib.Seq.{drop-drop, length-take-le}
 use Rattle.lexical.specs.Text.{byte, bytes, run}
 use Rattle.lexical.specs.Buffer.{stored, Written}
 use Rattle.lexical.proofs.Cases.{split, excluded}
 use Rattle.lexical.proofs.Suffix.{suffix-in, drop-take, parts}
 use Rattle.lexical.proofs.Run.{run-length}
-use Rattle.lexical.proofs.Stores.{nothing-written, then, same, written-as}
+use Rattle.lexical.proofs.Stores.{nothing-written, then, same, written-as, written-whole}
 use Rattle.rules.specs.Search.{choose}
 use Rattle.rules.specs.Filter.{isDisallowed}
 use Rattle.walk.specs.Remaining.{isPlain}
@@ -181,8 +181,7 @@ module _ (old : List ℕ) (at : ℕ) (whole : List ℕ) where
 
     -- with room for the whole, what is copied as far as there is room is copied whole
     pub copied-whole : at + length whole ≤ length old → (bs more new : List ℕ) → rest ≡ bs ++ more → Written out size (take (length out - size) bs) new → Written out size bs new
-    copied-whole room bs more new e w =
-        written-as bs (sym (take-all (length out - size) bs (omega (arith, to-come, same-room, ap length e ∙ length-append bs more)))) w
+    copied-whole room bs more new e w = written-whole bs (omega (arith, to-come, same-room, ap length e ∙ length-append bs more)) w
 
   pub part-written : (out : List ℕ) (size : ℕ) → UpTo out size [] → WritesPart old at whole out size
   part-written out size u =

@@ -5,9 +5,9 @@ use mathlib.Core.List.{List, _++_}
 use Prim.Native.Nat.{ℕ, _+_, _-_, _<_, _≤_}
 use native.Mathlib.Omega.{arith}
 use lib.ListN.{length, take, drop, length-append, length-drop}
-use lib.Seq.{take-all, length-take-le}
+use lib.Seq.{length-take-le}
 use Rattle.lexical.specs.Buffer.{Written}
-use Rattle.lexical.proofs.Stores.{then, same, written-as}
+use Rattle.lexical.proofs.Stores.{then, same, written-as, written-whole}
 use Rattle.tagfilter.specs.Part.{replacedBetween, countedEnd, pieceBytes, WritesPart}
 use Rattle.tagfilter.proofs.Replaced.{end-some, end-to}
 
@@ -47,7 +47,7 @@ module _ (text : List ℕ) (block : Bool) (start stop end : ℕ) (e : end ≡ co
 
       pub piece-written : (new : List ℕ) → Written mid behind (take (length mid - behind) rest) new → WritesPart old at (pieceBytes text block start stop) new (behind + (stop - end))
       piece-written new v =
-          let copied = written-as rest (sym (take-all (length mid - behind) rest (omega (arith, rest-fits, rest-length, same (w .bytes-are))))) v in
+          let copied = written-whole rest (omega (arith, rest-fits, rest-length, same (w .bytes-are))) v in
           record {
             bytes-are = written-as (pieceBytes text block start stop) bytes-are (then (w .behind) (w .bytes-are) copied);
             behind = omega (arith, w .behind, sizes);

@@ -7,9 +7,8 @@ use mathlib.Core.List.{List, [], _∷_, _++_}
 use Prim.Native.Nat.{ℕ, suc, _+_, _-_, _<_, _≤_}
 use native.Mathlib.Omega.{arith}
 use lib.ListN.{length, take, length-append, drop-of-length-le}
-use lib.Seq.{take-all}
 use Rattle.lexical.specs.Buffer.{stored, Written}
-use Rattle.lexical.proofs.Stores.{stores, from-front, same, written-as}
+use Rattle.lexical.proofs.Stores.{stores, from-front, same, written-whole}
 use Rattle.rules.specs.Withhold.{Piece, piece, pieces, written}
 use Rattle.rules.specs.declared.Rules.{Rules}
 use Rattle.runs.proofs.Ordered.{Ordered, none, bounds, first-from, first-some, others, first-to, pieces-ordered}
@@ -150,7 +149,7 @@ module _ (ρ : Rules) (text flags : List ℕ) where
       module _ (out : List ℕ) (c : Cursor) (from size : ℕ) (showing : Showing out c from size) where
         -- what fits is written whole
         pub fits : length whole ≤ length old → {bs new : List ℕ} → size + length bs ≤ length whole → Written out size (take (length out - size) bs) new → Written out size bs new
-        fits room {bs} l w = written-as bs (sym (take-all (length out - size) bs (omega (arith, showing .same-length)))) w
+        fits room {bs} l w = written-whole bs (omega (arith, showing .same-length)) w
 
         module _ (new : List ℕ) where
           pub showing-on : (start stop : ℕ) (b : Bool) (d : Cursor) (leads : Leads ρ text flags (remaining ρ text flags c) start stop b d) (n : ℕ)
