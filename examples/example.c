@@ -1,5 +1,5 @@
 /*
- * Counts the lines of a bulletin, withholds from it, scans it for a block and an inline piece, filters tags, and traces a scan.
+ * Counts the lines of a bulletin, withholds from it, scans it for a block and an inline piece, withholds in both readings, filters tags, and traces a scan.
  *
  *     rt staticlib foringamo
  *     cc -Iinclude -o target/example examples/example.c target/staticlib/libforingamo.a && target/example
@@ -68,8 +68,18 @@ int main(void) {
         printf("a piece from 5 to %zu, carry %d\n", piece.stop, piece.carry);
     }
 
-    /* One line, one flag; room for 8/5 of the bytes always suffices. */
+    /* One line, one flag. To the Rust `d/e` is no value of an attribute, so that there is no tag. */
     const uint8_t flag = 0;
+    const uint8_t *tag = (const uint8_t *)"a <b c=d/e>";
+    shown = foringamo_withhold(tag, 11, &flag, 1, out, sizeof out);
+    foringamo_shown standard = foringamo_standard_withhold(tag, 11, &flag, 1, out, sizeof out);
+    if (shown.refusal != 0 || standard.refusal != 0) {
+        printf("refused %d, %d\n", shown.refusal, standard.refusal);
+        return 1;
+    }
+    printf("of %s %zu bytes are shown, by the standard %zu\n", (const char *)tag, shown.length, standard.length);
+
+    /* Room for 8/5 of the bytes always suffices. */
     foringamo_written filtered = foringamo_filter((const uint8_t *)"a <xmp> <b>", 11, &flag, 1, out, sizeof out);
     if (filtered.refusal != 0) {
         printf("refused %d\n", filtered.refusal);

@@ -34,8 +34,12 @@
  * the next line begins behind that; for the empty last line the index is the length.
  *
  * Each call looks through its whole input for refusals, and reading a trace walks from its first record: to scan at every line, or to read every record, costs
- * the square of the length. foringamo_withhold and foringamo_filter go through a bulletin once where there is the room that always suffices, else twice: first to
- * count what they would write.
+ * the square of the length. foringamo_withhold, foringamo_standard_withhold and foringamo_filter go through a bulletin once where there is the room that always
+ * suffices, else twice: first to count what they would write.
+ *
+ * There are two readings. Functions with `standard` in their names read to the letter of CommonMark 0.31.2 (HTML blocks, Raw HTML). The others read as the Rust crate
+ * markdown 1.0.0 does, which departs from it in eight places: where a block of kind 5 closes, in five places what opens kind 7, in one what an inline open tag is,
+ * and in the carry, which by the standard is neither read nor changed. So a bulletin may show other bytes in the two: choose one, and keep to it.
  */
 #ifndef FORINGAMO_H
 #define FORINGAMO_H
@@ -43,7 +47,7 @@
 #include <stddef.h>
 #include <stdint.h>
 
-#define FORINGAMO_VERSION "0.3.2"
+#define FORINGAMO_VERSION "0.3.3"
 
 #ifdef __cplusplus
 extern "C" {
@@ -117,16 +121,22 @@ size_t foringamo_count_lines(const uint8_t *text, size_t text_len);
 /* The block that the line at the index opens. Refusals 1, 2, 3, 4. */
 foringamo_block foringamo_block_scan(const uint8_t *bulletin, size_t bulletin_len, const uint8_t *flags, size_t flags_len, size_t index);
 
+/* The same by the standard. Refusals 1, 2, 3, 4. */
+foringamo_block foringamo_standard_block_scan(const uint8_t *bulletin, size_t bulletin_len, const uint8_t *flags, size_t flags_len, size_t index);
+
 /*
  * The inline piece at the index of a paragraph's text; none where the byte there is not `<`. Pass carry 0: one that is passed on from a scan before gives what
  * the Rust gives, and a CDATA section may then be missed. Refusals 1, 4, 5, 6.
  */
 foringamo_inline foringamo_inline_scan(const uint8_t *text, size_t text_len, size_t index, uint8_t carry);
 
-/* Writes the trace of a block scan: its events and its answer, as records. Where nothing is found the last record's stop is the index. Refusals 1, 2, 3, 4, 7. */
+/* The same by the standard. The carry has no effect and comes back as it was passed; above 5 it is refused all the same. Refusals 1, 4, 5, 6. */
+foringamo_inline foringamo_standard_inline_scan(const uint8_t *text, size_t text_len, size_t index, uint8_t carry);
+
+/* Writes the trace of foringamo_block_scan: its events and its answer, as records. Where nothing is found the last record's stop is the index. Refusals 1, 2, 3, 4, 7. */
 foringamo_trace foringamo_block_trace(const uint8_t *bulletin, size_t bulletin_len, const uint8_t *flags, size_t flags_len, size_t index, uint8_t *out, size_t out_len);
 
-/* Writes the trace of an inline scan. Refusals 1, 4, 5, 6, 7. */
+/* Writes the trace of foringamo_inline_scan. Refusals 1, 4, 5, 6, 7. */
 foringamo_trace foringamo_inline_trace(const uint8_t *text, size_t text_len, size_t index, uint8_t carry, uint8_t *out, size_t out_len);
 
 /* The record of a number, counted from 0. The first bad record on the way decides; later ones are not looked at. Refusals 8, 9. */
@@ -134,6 +144,9 @@ foringamo_record foringamo_read_trace(const uint8_t *trace, size_t trace_len, si
 
 /* Writes the bulletin without its raw HTML. Room for bulletin_len bytes always suffices. Refusals 1, 2, 3, 7. */
 foringamo_shown foringamo_withhold(const uint8_t *bulletin, size_t bulletin_len, const uint8_t *flags, size_t flags_len, uint8_t *out, size_t out_len);
+
+/* The same by the standard, over its own blocks and inline pieces. Refusals 1, 2, 3, 7. */
+foringamo_shown foringamo_standard_withhold(const uint8_t *bulletin, size_t bulletin_len, const uint8_t *flags, size_t flags_len, uint8_t *out, size_t out_len);
 
 /*
  * Writes the bulletin as GitHub's tag filter shows it (GitHub Flavored Markdown Spec, Disallowed Raw HTML). The blocks and inline pieces are those that

@@ -1,13 +1,13 @@
 /*
- * CommonMark's examples of raw HTML, from the file that the argument names: through both scans, as withholding tries them, and through withholding. The head of
- * tests/commonmark.txt tells what an entry says; tests/commonmark.sh builds and runs this.
+ * CommonMark's examples of raw HTML, from the file that the argument names: in both readings, through both scans, as withholding tries them, and through
+ * withholding. The head of tests/commonmark.txt tells what an entry says; tests/commonmark.sh builds and runs this.
  * A line for each check that fails, then how many examples were run; the last line is 'N passed, M failed'.
  */
 #include <stdio.h>
 #include <stdlib.h>
 #include <string.h>
 
-#include "foringamo.h"
+#include "reading.h"
 
 /* Bytes of a text, pieces of a text, and bytes of a line of the file, at most. */
 #define ROOM 512
@@ -64,6 +64,7 @@ static int passed = 0;
 static int failed = 0;
 
 static int number = 0;   /* of the example */
+static const char *reads = "as published";
 static int in_order = 1; /* no number so far is missing, or there twice */
 static int whole = 0;
 static int but_code = 0;
@@ -78,7 +79,7 @@ static void check(int holds, const char *what) {
         passed++;
     } else {
         failed++;
-        printf("example %d: %s\n", number, what);
+        printf("example %d, %s: %s\n", number, reads, what);
     }
 }
 
@@ -148,12 +149,12 @@ static int is_blank(const text *t, size_t index, size_t end) {
 }
 
 /* The inline pieces of a paragraph. */
-static void paragraph(const text *t, size_t start, size_t stop, pieces *found) {
+static void paragraph(const reading *by, const text *t, size_t start, size_t stop, pieces *found) {
     size_t i = start;
     while (i < stop) {
         foringamo_inline r = {0};
         if (t->bytes[i] == '<') {
-            r = foringamo_inline_scan(t->bytes + start, stop - start, i - start, 0);
+            r = by->inline_scan(t->bytes + start, stop - start, i - start, 0);
         }
         if (r.refusal != 0 || (r.found && start + r.stop <= i)) {
             add(found, REFUSED, i, i, 0);
@@ -169,7 +170,7 @@ static void paragraph(const text *t, size_t start, size_t stop, pieces *found) {
 }
 
 /* The pieces of a part: blocks are tried at each line outside a block, inline pieces at each `<` of a paragraph outside a piece. */
-static pieces scan(const part *p) {
+static pieces scan(const reading *by, const part *p) {
     const text *t = &p->markdown;
     pieces found = {0};
     size_t at = 0;
@@ -177,7 +178,7 @@ static pieces scan(const part *p) {
     size_t stop = 0;  /* and where its last line ends; equal: none is */
     for (;;) {
         size_t end = line_end(t, at);
-        foringamo_block r = foringamo_block_scan(t->bytes, t->length, p->flags.bytes, p->flags.length, at);
+        foringamo_block r = by->block_scan(t->bytes, t->length, p->flags.bytes, p->flags.length, at);
         int code = at >= p->code_start && at < p->code_stop;
         if (r.refusal != 0 || (r.kind != 0 && r.stop <= at)) {
             add(&found, REFUSED, at, at, 0);
@@ -189,7 +190,7 @@ static pieces scan(const part *p) {
             }
             stop = end;
         } else {
-            paragraph(t, start, stop, &found);
+            paragraph(by, t, start, stop, &found);
             start = stop;
         }
         if (r.kind != 0) {
@@ -201,13 +202,13 @@ static pieces scan(const part *p) {
         }
         at = end + 1;
     }
-    paragraph(t, start, stop, &found);
+    paragraph(by, t, start, stop, &found);
     return found;
 }
 
-static int withholds(const part *p, const rest *expected) {
+static int withholds(const reading *by, const part *p, const rest *expected) {
     text out = {0};
-    foringamo_shown r = foringamo_withhold(p->markdown.bytes, p->markdown.length, p->flags.bytes, p->flags.length, out.bytes, ROOM);
+    foringamo_shown r = by->withhold(p->markdown.bytes, p->markdown.length, p->flags.bytes, p->flags.length, out.bytes, ROOM);
     out.length = r.length;
     return r.refusal == 0 && r.pieces == expected->count && same(&out, &expected->left);
 }
@@ -242,6 +243,25 @@ static int publishes(const uint8_t *bytes, size_t length) {
     return 1;
 }
 
+/* A part in one reading. */
+static void run_by(const reading *by) {
+    reads = by->name;
+    if (now.shown.given) {
+        pieces found = scan(by, &now);
+        text left = outside(&now.markdown, &found);
+        int agrees = same_pieces(&found, &now.raw);
+        check(agrees && found.count == now.shown.count && same(&left, &now.shown.left), "the scans find other pieces, or leave other than `shown`");
+        if (!agrees) {
+            print_pieces(&found);
+        }
+    }
+    if (now.instead.given) {
+        check(withholds(by, &now, &now.instead), "withholding gives other than `instead`");
+    } else {
+        check(now.shown.given && withholds(by, &now, &now.shown), "withholding gives other than `shown`");
+    }
+}
+
 static void run_part(void) {
     if (!now.given) {
         return;
@@ -251,25 +271,14 @@ static void run_part(void) {
         int fits = p->start < p->stop && p->stop <= now.markdown.length;
         html_agrees = html_agrees && fits && publishes(now.markdown.bytes + p->start, p->stop - p->start);
     }
-    if (now.shown.given) {
-        pieces found = scan(&now);
-        text left = outside(&now.markdown, &found);
-        int agrees = same_pieces(&found, &now.raw);
-        check(agrees && found.count == now.shown.count && same(&left, &now.shown.left), "the scans find other pieces, or leave other than `shown`");
-        if (!agrees) {
-            print_pieces(&found);
-        }
-    }
-    if (now.instead.given) {
-        check(withholds(&now, &now.instead), "withholding gives other than `instead`");
-    } else {
-        check(now.shown.given && withholds(&now, &now.shown), "withholding gives other than `shown`");
-    }
+    run_by(&rust);
+    run_by(&standard);
     memset(&now, 0, sizeof now);
 }
 
 static void run_example(void) {
     run_part();
+    reads = "as published";
     if (number != 0) {
         check(html_agrees && publishes(NULL, 0), "the pieces are not the raw HTML of the published HTML");
     }

@@ -1,6 +1,6 @@
 #!/usr/bin/env bash
-# The C interface, as a user links it: the examples in C and in Rust write what examples/expected.txt has, tests/interface.c walks the refusals, and the Rust package
-# in rust/ passes its tests without a warning, built by cargo and by rustc alone.
+# The C interface, as a user links it: the examples in C and in Rust write what examples/expected.txt has, tests/interface.c walks the refusals and the readings,
+# tests/filter.c the tag filter, and the Rust package in rust/ passes its tests without a warning, built by cargo and by rustc alone.
 #
 #     tests/interface.sh
 #
@@ -112,11 +112,14 @@ in_c() {
     else
         fails 'examples/example.c: not compiled'
     fi
-    if compile_c tests/interface.c "$built/interface"; then
-        walks tests/interface.c "$built/interface"
-    else
-        fails 'tests/interface.c: not compiled'
-    fi
+    local program
+    for program in interface filter; do
+        if compile_c "tests/$program.c" "$built/$program"; then
+            walks "tests/$program.c" "$built/$program"
+        else
+            fails "tests/$program.c: not compiled"
+        fi
+    done
 }
 
 in_rust() {
@@ -143,7 +146,7 @@ if ! scripts/archive.sh 2>&1; then
     fails "there is no $archive of these sources to link"
 elif ! command -v cc >/dev/null; then
     # Rust's programs are linked by it too.
-    echo 'there is no cc: the examples, tests/interface.c and the package in rust/ are left out'
+    echo 'there is no cc: the examples, tests/interface.c, tests/filter.c and the package in rust/ are left out'
 else
     in_c
     in_rust

@@ -1,4 +1,4 @@
-//! Counts the lines of a bulletin, withholds from it, scans it for a block and an inline piece, filters tags, and traces a scan.
+//! Counts the lines of a bulletin, withholds from it, scans it for a block and an inline piece, withholds in both readings, filters tags, and traces a scan.
 //!
 //!     rt staticlib foringamo
 //!     CARGO_TARGET_DIR=target/cargo cargo run --offline --manifest-path rust/Cargo.toml --example example
@@ -40,7 +40,13 @@ fn run() -> Result<(), Refusal> {
         Inline::Missing { carry } => println!("no piece at 5, carry {carry}"),
     }
 
-    // One line, one flag; room for 8/5 of the bytes always suffices.
+    // One line, one flag. To the Rust `d/e` is no value of an attribute, so that there is no tag.
+    let tag = "a <b c=d/e>";
+    let shown = foringamo::withhold(tag.as_bytes(), &[0], &mut out)?.length;
+    let standard = foringamo::standard_withhold(tag.as_bytes(), &[0], &mut out)?.length;
+    println!("of {tag} {shown} bytes are shown, by the standard {standard}");
+
+    // Room for 8/5 of the bytes always suffices.
     let length = foringamo::filter(b"a <xmp> <b>", &[0], &mut out)?;
     println!("filtered, {length} bytes: {}", String::from_utf8_lossy(&out[..length]));
 

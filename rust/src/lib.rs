@@ -6,6 +6,9 @@
 //! A bulletin has one line more than it has line endings (LF, CR LF, or CR), and a flag for each line: 0, [`LAZY`], [`INTERRUPT`], or both. [`count_lines`] says how
 //! many. An index and a stop count bytes from 0; a stop is behind the last byte taken.
 //!
+//! There are two readings. [`standard_block_scan`], [`standard_inline_scan`] and [`standard_withhold`] read to the letter of CommonMark 0.31.2; the other functions read
+//! as the Rust crate markdown 1.0.0 does, with its eight changes to it.
+//!
 //! What is refused comes back as a [`Refusal`], and no byte of an output buffer has changed. On an answer the bytes past those written stay as they are.
 //!
 //! ```
@@ -284,7 +287,15 @@ mod c {
     extern "C" {
         pub fn foringamo_count_lines(text: *const u8, text_len: usize) -> usize;
         pub fn foringamo_block_scan(bulletin: *const u8, bulletin_len: usize, flags: *const u8, flags_len: usize, index: usize) -> Block;
+        pub fn foringamo_standard_block_scan(
+            bulletin: *const u8,
+            bulletin_len: usize,
+            flags: *const u8,
+            flags_len: usize,
+            index: usize,
+        ) -> Block;
         pub fn foringamo_inline_scan(text: *const u8, text_len: usize, index: usize, carry: u8) -> Inline;
+        pub fn foringamo_standard_inline_scan(text: *const u8, text_len: usize, index: usize, carry: u8) -> Inline;
         pub fn foringamo_block_trace(
             bulletin: *const u8,
             bulletin_len: usize,
@@ -297,6 +308,14 @@ mod c {
         pub fn foringamo_inline_trace(text: *const u8, text_len: usize, index: usize, carry: u8, out: *mut u8, out_len: usize) -> Written;
         pub fn foringamo_read_trace(trace: *const u8, trace_len: usize, number: usize) -> Record;
         pub fn foringamo_withhold(
+            bulletin: *const u8,
+            bulletin_len: usize,
+            flags: *const u8,
+            flags_len: usize,
+            out: *mut u8,
+            out_len: usize,
+        ) -> Shown;
+        pub fn foringamo_standard_withhold(
             bulletin: *const u8,
             bulletin_len: usize,
             flags: *const u8,
@@ -355,6 +374,18 @@ fn block(got: c::Block) -> Option<Block> {
     kind(got.kind).map(|kind| Block { kind, name, stop: got.stop, closed: got.closed == 1, closer: got.closer })
 }
 
+fn inline(got: c::Inline) -> Inline {
+    if got.found == 1 {
+        Inline::Found { stop: got.stop, carry: got.carry }
+    } else {
+        Inline::Missing { carry: got.carry }
+    }
+}
+
+fn shown(got: c::Shown) -> Shown {
+    Shown { length: got.length, pieces: got.pieces }
+}
+
 // The name of an event by the number of its kind.
 fn name(kind: u8) -> Name {
     match kind {
@@ -406,6 +437,19 @@ pub fn block_scan(bulletin: &[u8], flags: &[u8], index: usize) -> Result<Option<
     unless_refused(got.refusal, || block(got))
 }
 
+/// [`block_scan`] by the standard. Refusals 1, 2, 3, 4.
+///
+/// ```
+/// use foringamo::{block_scan, standard_block_scan};
+///
+/// assert_eq!(standard_block_scan(b"<pre/>", &[0], 0), Ok(None));
+/// assert!(block_scan(b"<pre/>", &[0], 0).is_ok_and(|block| block.is_some()));
+/// ```
+pub fn standard_block_scan(bulletin: &[u8], flags: &[u8], index: usize) -> Result<Option<Block>, Refusal> {
+    let got = unsafe { c::foringamo_standard_block_scan(bulletin.as_ptr(), bulletin.len(), flags.as_ptr(), flags.len(), index) };
+    unless_refused(got.refusal, || block(got))
+}
+
 /// The inline piece at the index of a paragraph's text; none where the byte there is not `<`. Of `CDATA[`, the letters that the carry counts are taken as read.
 /// Refusals 1, 4, 5, 6.
 ///
@@ -417,13 +461,20 @@ pub fn block_scan(bulletin: &[u8], flags: &[u8], index: usize) -> Result<Option<
 /// ```
 pub fn inline_scan(text: &[u8], index: usize, carry: u8) -> Result<Inline, Refusal> {
     let got = unsafe { c::foringamo_inline_scan(text.as_ptr(), text.len(), index, carry) };
-    unless_refused(got.refusal, || {
-        if got.found == 1 {
-            Inline::Found { stop: got.stop, carry: got.carry }
-        } else {
-            Inline::Missing { carry: got.carry }
-        }
-    })
+    unless_refused(got.refusal, || inline(got))
+}
+
+/// [`inline_scan`] by the standard: the carry has no effect and comes back as it was passed. Refusals 1, 4, 5, 6.
+///
+/// ```
+/// use foringamo::{inline_scan, standard_inline_scan, Inline};
+///
+/// assert_eq!(standard_inline_scan(b"<a b=c/d>", 0, 0), Ok(Inline::Found { stop: 9, carry: 0 }));
+/// assert_eq!(inline_scan(b"<a b=c/d>", 0, 0), Ok(Inline::Missing { carry: 0 }));
+/// ```
+pub fn standard_inline_scan(text: &[u8], index: usize, carry: u8) -> Result<Inline, Refusal> {
+    let got = unsafe { c::foringamo_standard_inline_scan(text.as_ptr(), text.len(), index, carry) };
+    unless_refused(got.refusal, || inline(got))
 }
 
 /// Writes the trace of a block scan and gives its length. Refusals 1, 2, 3, 4, 7.
@@ -469,7 +520,23 @@ pub fn withhold(bulletin: &[u8], flags: &[u8], out: &mut [u8]) -> Result<Shown, 
     let got = unsafe {
         c::foringamo_withhold(bulletin.as_ptr(), bulletin.len(), flags.as_ptr(), flags.len(), out.as_mut_ptr(), out.len())
     };
-    unless_refused(got.refusal, || Shown { length: got.length, pieces: got.pieces })
+    unless_refused(got.refusal, || shown(got))
+}
+
+/// [`withhold`] by the standard, over its own blocks and inline pieces. Refusals 1, 2, 3, 7.
+///
+/// ```
+/// use foringamo::{standard_withhold, withhold, Shown};
+///
+/// let mut out = [0; 11];
+/// assert_eq!(standard_withhold(b"a <b c=d/e>", &[0], &mut out), Ok(Shown { length: 2, pieces: 1 }));
+/// assert_eq!(withhold(b"a <b c=d/e>", &[0], &mut out), Ok(Shown { length: 11, pieces: 0 }));
+/// ```
+pub fn standard_withhold(bulletin: &[u8], flags: &[u8], out: &mut [u8]) -> Result<Shown, Refusal> {
+    let got = unsafe {
+        c::foringamo_standard_withhold(bulletin.as_ptr(), bulletin.len(), flags.as_ptr(), flags.len(), out.as_mut_ptr(), out.len())
+    };
+    unless_refused(got.refusal, || shown(got))
 }
 
 /// Writes the bulletin as GitHub's tag filter shows it (GitHub Flavored Markdown Spec, Disallowed Raw HTML) and gives the length. Refusals 1, 2, 3, 7.

@@ -2,8 +2,8 @@
 #![forbid(unsafe_code)]
 
 use foringamo::{
-    block_scan, block_trace, count_lines, filter, inline_scan, inline_trace, read_trace, withhold, Block, Inline, Kind, Name, Point, Record, Refusal, Shown,
-    BLOCK_NAMES, INTERRUPT, LAZY, LIMIT, RAW_NAMES,
+    block_scan, block_trace, count_lines, filter, inline_scan, inline_trace, read_trace, standard_block_scan, standard_inline_scan, standard_withhold, withhold,
+    Block, Inline, Kind, Name, Point, Record, Refusal, Shown, BLOCK_NAMES, INTERRUPT, LAZY, LIMIT, RAW_NAMES,
 };
 
 const FILL: u8 = 0xee;
@@ -202,6 +202,69 @@ fn inlines() {
     assert_eq!(inline_scan(b"<b>", usize::MAX, 0), Err(Refusal::WrongIndex));
     assert_eq!(inline_scan(b"<b>", 0, 6), Err(Refusal::WrongCarry));
     assert_eq!(inline_scan(b"a\n \nb", 0, 0), Err(Refusal::BlankLine));
+}
+
+// A line with its flag, and the block that each reading finds there: one where both find it, and one for each of F1 to F6.
+#[test]
+fn standard_blocks() {
+    let complete = |stop| Some(Block { kind: Kind::Complete, name: None, stop, closed: false, closer: stop });
+    let cdata = |closed, closer| Some(Block { kind: Kind::Cdata, name: None, stop: 13, closed, closer });
+    for (text, flag, rust, standard) in [
+        (&b"<a>"[..], LAZY, complete(3), complete(3)),
+        (b"<![CDATA[]]]>", 0, cdata(false, 13), cdata(true, 10)),
+        (b"<a 1b>", 0, complete(6), None),
+        (b"<pre/>", 0, complete(6), None),
+        (b"<a b=c/d>", 0, None, complete(9)),
+        (b"<a b=c=d>", 0, complete(9), None),
+        (b"<a>", INTERRUPT | LAZY, complete(3), None),
+    ] {
+        assert_eq!(block_scan(text, &[flag], 0), Ok(rust), "{text:?}");
+        assert_eq!(standard_block_scan(text, &[flag], 0), Ok(standard), "{text:?}");
+    }
+    assert_eq!(standard_block_scan(&long(), &[0], 0), Err(Refusal::TooLong));
+    assert_eq!(standard_block_scan(b"x", &[0, 0], 0), Err(Refusal::WrongCount));
+    assert_eq!(standard_block_scan(b"x", &[4], 0), Err(Refusal::WrongFlag));
+    assert_eq!(standard_block_scan(b"x", &[0], 1), Err(Refusal::WrongIndex));
+}
+
+// T1 and T2.
+#[test]
+fn standard_inlines() {
+    assert_eq!(inline_scan(b"<a b=c/d>", 0, 0), Ok(Inline::Missing { carry: 0 }));
+    for carry in 0..=5 {
+        assert_eq!(standard_inline_scan(b"<a b=c/d>", 0, carry), Ok(Inline::Found { stop: 9, carry }));
+        assert_eq!(standard_inline_scan(b"<![CDATA[q]]>", 0, carry), Ok(Inline::Found { stop: 13, carry }));
+        assert_eq!(standard_inline_scan(b"<![ATA[q]]>", 0, carry), Ok(Inline::Missing { carry }));
+        assert_eq!(standard_inline_scan(b"<![CDx", 0, carry), Ok(Inline::Missing { carry }));
+    }
+    assert_eq!(standard_inline_scan(&long(), 0, 0), Err(Refusal::TooLong));
+    assert_eq!(standard_inline_scan(b"<b>", 4, 0), Err(Refusal::WrongIndex));
+    assert_eq!(standard_inline_scan(b"<b>", 0, 6), Err(Refusal::WrongCarry));
+    assert_eq!(standard_inline_scan(b"a\n \nb", 0, 0), Err(Refusal::BlankLine));
+}
+
+#[test]
+fn standard_withheld() {
+    let bulletin = b"a <b c=d/e>\n<pre/>\n<i 1>";
+    let (rust, standard) = (b"a <b c=d/e>\n", b"a \n\n<i 1>");
+    for room in 0..=bulletin.len() {
+        let mut out = vec![FILL; room];
+        let got = standard_withhold(bulletin, &[0; 3], &mut out);
+        if room < standard.len() {
+            assert_eq!(got, Err(Refusal::NoRoom));
+            assert!(out.iter().all(|&b| b == FILL));
+        } else {
+            assert_eq!(got, Ok(Shown { length: standard.len(), pieces: 2 }));
+            assert_eq!(&out[..standard.len()], standard);
+            assert!(out[standard.len()..].iter().all(|&b| b == FILL));
+        }
+    }
+    let mut out = vec![FILL; bulletin.len()];
+    assert_eq!(withhold(bulletin, &[0; 3], &mut out), Ok(Shown { length: rust.len(), pieces: 1 }));
+    assert_eq!(&out[..rust.len()], rust);
+    assert_eq!(standard_withhold(&long(), &[0], &mut out), Err(Refusal::TooLong));
+    assert_eq!(standard_withhold(b"a", &[0, 0], &mut out), Err(Refusal::WrongCount));
+    assert_eq!(standard_withhold(b"a", &[4], &mut out), Err(Refusal::WrongFlag));
 }
 
 #[test]

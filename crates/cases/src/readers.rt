@@ -1,11 +1,21 @@
 // Cases of the reader and of the lent step.
-use crate::scans::reading;
 use crate::scans::show_inline;
 use crate::show::next;
 use crate::show::yes_or_no;
 use flow::html_flow::Kind;
 use reader::slice::Turn;
 use reader::slice::read_at;
+use rules::Rules;
+use rules::crate_rules;
+use rules::standard_rules;
+
+// All eight changes, or none.
+fn reading(changed: bool) -> Rules {
+    if changed {
+        return crate_rules();
+    }
+    standard_rules()
+}
 
 // The kind of a number.
 fn kind(number: u8) -> Kind {
@@ -49,12 +59,12 @@ pub fn pieces(text: &[u8], from: usize) {
 
 // The inline run by the lent step, with all eight changes.
 pub fn run(text: &[u8], index: usize, carry: u8) {
-    show_inline(reader::html_text::inline_at(reading(true), text, index, carry));
+    show_inline(reader::html_text::inline_at(crate_rules(), text, index, carry));
 }
 
 // What begins at an index by the lent step, with none of the changes.
 pub fn begins(text: &[u8], index: usize) {
-    show_inline(reader::html_text::inline_at(reading(false), text, index, 0));
+    show_inline(reader::html_text::inline_at(standard_rules(), text, index, 0));
 }
 
 // Whether a line of a block of a kind has its closer, by the lent step with all eight changes or none.

@@ -11,7 +11,9 @@
 //     b    the block scan (scans.rt)
 //     N    the block scan: the place of the name (scans.rt)
 //     C    the block scan: where the closer begins (scans.rt)
-//     c    the same with none of the changes; the flags are those from the index's line on (scans.rt)
+//     j    the inline scan by the standard (scans.rt)
+//     d    the block scan by the standard (scans.rt)
+//     c    the block scan by the standard: where the closer begins (scans.rt)
 //     r    a reader at the index scans, with the digit as carry, and moves on (readers.rt)
 //     p    a reader goes over the text from the index on (readers.rt)
 //     t    the inline run by the lent step, with the digit as carry and all eight changes (readers.rt)
@@ -22,6 +24,7 @@
 // `ROOM LENGTH FLAGS TEXT`, the same with two numbers of five digits:
 //
 //     w    withholding (screens.rt)
+//     W    withholding by the standard (screens.rt)
 //     g    GitHub's tag filter (screens.rt)
 //
 // Hexadecimal: INDEX of two bytes, COUNT of one, ROOM of two, high byte first, as many flags as COUNT says, and the text. The carry of an inline scan is its one
@@ -50,6 +53,7 @@ use crate::scans::closer;
 use crate::scans::name;
 use crate::scans::scan;
 use crate::scans::standard_closer;
+use crate::scans::standard_scan;
 use crate::show::end_line;
 use crate::show::unknown;
 use crate::traces::record;
@@ -83,6 +87,8 @@ fn answer(letter: u8, text: &[u8], flags: &[u8], index: usize, room: usize) {
         b'b' => scan(true, text, flags, index),
         b'N' => name(text, flags, index),
         b'C' => closer(text, flags, index),
+        b'j' => standard_scan(false, text, flags, index),
+        b'd' => standard_scan(true, text, flags, index),
         b'c' => standard_closer(text, flags, index),
         b'r' => readers::turn(text, index, digit),
         b'p' => readers::pieces(text, index),
@@ -134,8 +140,7 @@ fn one(line: &[u8]) {
     let letter = byte_at(line, 0);
     match letter {
         b'n' => crate::lines::line(from_indices(line, 2, line.len())),
-        b'w' => crate::screens::screened(false, line),
-        b'g' => crate::screens::screened(true, line),
+        b'w' | b'W' | b'g' => crate::screens::screened(letter, line),
         b'I' | b'B' | b'e' | b's' | b'l' | b'S' | b'L' => in_hexadecimal(letter, line),
         _ => in_digits(letter, line),
     }

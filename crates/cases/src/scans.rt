@@ -9,25 +9,11 @@ use crate::show::yes_or_no;
 use flow::html_flow::kind_number;
 use flow::scan::Block;
 use flow::scan::Found;
-use flow::scan::block_at;
 use flow::scan::block_scan;
+use flow::scan::standard_block_scan;
 use html::scan::inline_scan;
+use html::scan::standard_inline_scan;
 use html::tokenizer::Inline;
-use rules::Rules;
-
-// All eight changes, or none.
-pub fn reading(changed: bool) -> Rules {
-    Rules {
-        f1: changed,
-        f2: changed,
-        f3: changed,
-        f4: changed,
-        f5: changed,
-        f6: changed,
-        t1: changed,
-        t2: changed,
-    }
-}
 
 // `found STOP CARRY`, `none CARRY` or `refused NUMBER CARRY`.
 pub fn show_inline(answer: Inline) {
@@ -100,6 +86,15 @@ pub fn scan(block: bool, text: &[u8], flags: &[u8], index: usize) {
     }
 }
 
+// The same by the standard.
+pub fn standard_scan(block: bool, text: &[u8], flags: &[u8], index: usize) {
+    if block {
+        show_block(standard_block_scan(text, flags, index), Part::Stop);
+    } else {
+        show_inline(standard_inline_scan(text, index, byte_at(flags, 0)));
+    }
+}
+
 // The block scan: the place of the name.
 pub fn name(text: &[u8], flags: &[u8], index: usize) {
     show_block(block_scan(text, flags, index), Part::Name);
@@ -110,10 +105,7 @@ pub fn closer(text: &[u8], flags: &[u8], index: usize) {
     show_block(block_scan(text, flags, index), Part::Closer);
 }
 
-// The same with none of the changes. The flags are those from the index's line on.
+// The same by the standard.
 pub fn standard_closer(text: &[u8], flags: &[u8], index: usize) {
-    show_block(
-        block_at(reading(false), text, flags, index, 0),
-        Part::Closer,
-    );
+    show_block(standard_block_scan(text, flags, index), Part::Closer);
 }

@@ -11,6 +11,7 @@ use crate::show::space;
 use lexical::slice::from_indices;
 use rules::Output;
 use screen::withhold::Withheld;
+use screen::withhold::standard_withhold;
 use screen::withhold::withhold;
 use tagfilter::filter::filter;
 
@@ -122,25 +123,31 @@ fn show_written(answer: Output, out: &[u8]) {
     }
 }
 
-fn into(filters: bool, bulletin: &[u8], flags: &[u8], out: &mut [u8]) {
-    if filters {
+// What a case asks, by its letter.
+fn into(letter: u8, bulletin: &[u8], flags: &[u8], out: &mut [u8]) {
+    if letter == b'g' {
         let answer = filter(bulletin, flags, out);
         show_written(answer, out);
+        return;
+    }
+    if letter == b'W' {
+        let answer = standard_withhold(bulletin, flags, out);
+        show(answer, out);
         return;
     }
     let answer = withhold(bulletin, flags, out);
     show(answer, out);
 }
 
-fn with_room(filters: bool, bulletin: &[u8], flags: &[u8], room: usize) {
+fn with_room(letter: u8, bulletin: &[u8], flags: &[u8], room: usize) {
     let mut out = [FILL; ROOM];
     if room <= ROOM {
-        into(filters, bulletin, flags, &mut out[0..room]);
+        into(letter, bulletin, flags, &mut out[0..room]);
     }
 }
 
-// The tag filter, or withholding, from a whole case.
-pub fn screened(filters: bool, line: &[u8]) {
+// A whole case: withholding, in either reading, or the tag filter.
+pub fn screened(letter: u8, line: &[u8]) {
     let mut flags = [0u8; FLAGS];
     let mut bulletin = [0u8; LIMIT + 1];
     let room = number(from_indices(line, ROOM_AT, LENGTH_AT));
@@ -149,7 +156,7 @@ pub fn screened(filters: bool, line: &[u8]) {
     let n = unescape(line, count + TEXT_AT, &mut bulletin);
     repeat(&mut bulletin, n, length);
     with_room(
-        filters,
+        letter,
         from_indices(&bulletin, 0, length),
         from_indices(&flags, 0, count),
         room,

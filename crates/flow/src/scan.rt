@@ -3,7 +3,7 @@ ghost use mathlib.Core.Path.{_≡_};
 ghost use lib.Dec.{leb};
 ghost use lib.ListN.{drop};
 ghost use Rattle.lexical.specs.Name.{all};
-ghost use Rattle.rules.specs.Reading.{crate as ofCrate};
+ghost use Rattle.rules.specs.Reading.{crate as ofCrate, standard};
 ghost use Rattle.rules.specs.Lines.{linesOf};
 ghost use Rattle.rules.specs.Refusal.{bulletinRefusal};
 ghost use Rattle.rules.specs.Scan.{blockOf, blockScan};
@@ -25,6 +25,7 @@ use lexical::line::space_or_tab_end;
 use lexical::slice::from_indices;
 use rules::Rules;
 use rules::crate_rules;
+use rules::standard_rules;
 
 // 01, Where each refusal is met.
 const TOO_LONG: u8 = 1;
@@ -114,9 +115,9 @@ pub fn block_at(rules: Rules, bulletin: &[u8], flags: &[u8], index: usize, line:
     }
 }
 
-// The block scan with all eight changes.
-pub fn block_scan(bulletin: &[u8], flags: &[u8], index: usize) -> Block
-    ensures { λ r. ⌜ blockAnswerOf r ≡ blockScan ofCrate (now (bulletin .entry)) (now (flags .entry)) index ⌝ }
+// The block scan in any reading.
+fn scan_by(rules: Rules, bulletin: &[u8], flags: &[u8], index: usize) -> Block
+    ensures { λ r. ⌜ blockAnswerOf r ≡ blockScan rules (now (bulletin .entry)) (now (flags .entry)) index ⌝ }
 {
     let refusal = bulletin_refusal(bulletin, flags);
     if refusal != 0 {
@@ -127,7 +128,20 @@ pub fn block_scan(bulletin: &[u8], flags: &[u8], index: usize) -> Block
             refusal: WRONG_INDEX,
         };
     }
-    let all = crate_rules();
     let line = count_lines(from_indices(bulletin, 0, index)) - 1;
-    block_at(all, bulletin, flags, index, line)
+    block_at(rules, bulletin, flags, index, line)
+}
+
+// The block scan with all eight changes.
+pub fn block_scan(bulletin: &[u8], flags: &[u8], index: usize) -> Block
+    ensures { λ r. ⌜ blockAnswerOf r ≡ blockScan ofCrate (now (bulletin .entry)) (now (flags .entry)) index ⌝ }
+{
+    scan_by(crate_rules(), bulletin, flags, index)
+}
+
+// The block scan by the standard, with none of the changes.
+pub fn standard_block_scan(bulletin: &[u8], flags: &[u8], index: usize) -> Block
+    ensures { λ r. ⌜ blockAnswerOf r ≡ blockScan standard (now (bulletin .entry)) (now (flags .entry)) index ⌝ }
+{
+    scan_by(standard_rules(), bulletin, flags, index)
 }

@@ -1,8 +1,9 @@
 // The block scan and its trace.
 ghost use mathlib.Core.Path.{_≡_};
 ghost use lib.ListN.{length};
-ghost use Rattle.rules.specs.Reading.{crate as ofCrate};
+ghost use Rattle.rules.specs.Reading.{crate as ofCrate, standard};
 ghost use Rattle.rules.specs.Scan.{blockScan};
+ghost use Rattle.flow.specs.Answer.{blockAnswerOf};
 ghost use Rattle.trace.specs.Answer.{blockTraced, blockBuffer};
 ghost use Rattle.foringamo.specs.Result.{blockResult, writtenResult};
 use crate::written::WrittenResult;
@@ -10,6 +11,7 @@ use crate::written::written_result;
 use flow::html_flow::kind_number;
 use flow::scan::Block;
 use flow::scan::block_scan;
+use flow::scan::standard_block_scan;
 use lexical::constant::NO_NAME;
 use trace::block::block_trace;
 
@@ -29,12 +31,11 @@ pub struct BlockResult {
     pub closer: usize,
 }
 
-// The block that the line at an index opens.
-#[no_mangle]
-pub extern "C" fn foringamo_block_scan(bulletin: &[u8], flags: &[u8], index: usize) -> BlockResult
-    ensures { λ r. ⌜ r ≡ blockResult (blockScan ofCrate (now (bulletin .entry)) (now (flags .entry)) index) ⌝ }
+// The answer of a block scan, as the interface gives it.
+fn block_result(answer: Block) -> BlockResult
+    ensures { λ r. ⌜ r ≡ blockResult (blockAnswerOf answer) ⌝ }
 {
-    match block_scan(bulletin, flags, index) {
+    match answer {
         Block::Found(found) => {
             let kind = found.kind;
             BlockResult {
@@ -63,6 +64,26 @@ pub extern "C" fn foringamo_block_scan(bulletin: &[u8], flags: &[u8], index: usi
             closer: 0,
         },
     }
+}
+
+// The block that the line at an index opens.
+#[no_mangle]
+pub extern "C" fn foringamo_block_scan(bulletin: &[u8], flags: &[u8], index: usize) -> BlockResult
+    ensures { λ r. ⌜ r ≡ blockResult (blockScan ofCrate (now (bulletin .entry)) (now (flags .entry)) index) ⌝ }
+{
+    block_result(block_scan(bulletin, flags, index))
+}
+
+// The block that the line at an index opens by the standard.
+#[no_mangle]
+pub extern "C" fn foringamo_standard_block_scan(
+    bulletin: &[u8],
+    flags: &[u8],
+    index: usize,
+) -> BlockResult
+    ensures { λ r. ⌜ r ≡ blockResult (blockScan standard (now (bulletin .entry)) (now (flags .entry)) index) ⌝ }
+{
+    block_result(standard_block_scan(bulletin, flags, index))
 }
 
 // The trace of a block scan.

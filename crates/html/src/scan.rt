@@ -3,7 +3,7 @@ ghost use mathlib.Core.Path.{_≡_};
 ghost use Prim.Native.Nat.{_<_};
 ghost use lib.ListN.{length, drop};
 ghost use Rattle.lexical.specs.Text.{pick};
-ghost use Rattle.rules.specs.Reading.{crate as ofCrate};
+ghost use Rattle.rules.specs.Reading.{crate as ofCrate, standard};
 ghost use Rattle.rules.specs.Search.{somewhere};
 ghost use Rattle.rules.specs.Refusal.{blankFollows, inlineRefusal};
 ghost use Rattle.rules.specs.Scan.{inlineAt, inlineScan};
@@ -18,6 +18,7 @@ use lexical::line::line_end;
 use lexical::line::space_or_tab_end;
 use rules::Rules;
 use rules::crate_rules;
+use rules::standard_rules;
 
 // 01, Where each refusal is met.
 const TOO_LONG: u8 = 1;
@@ -110,14 +111,32 @@ pub fn inline_at(rules: Rules, text: &[u8], index: usize) -> Inline
     keep(rules, run(rules, text, index, StateName::Start, 0), 0)
 }
 
-// The inline scan with all eight changes. T2: the CDATA prefix is compared from the carry.
-pub fn inline_scan(text: &[u8], index: usize, carry: u8) -> Inline
-    ensures { λ r. ⌜ inlineOf r ≡ inlineScan ofCrate (now (text .entry)) index carry ⌝ }
+// The inline scan in any reading. T2: the CDATA prefix is compared from the carry; without it, from its first letter.
+fn scan_by(rules: Rules, text: &[u8], index: usize, carry: u8) -> Inline
+    ensures { λ r. ⌜ inlineOf r ≡ inlineScan rules (now (text .entry)) index carry ⌝ }
 {
     let refusal = inline_refusal(text, index, carry);
     if refusal != 0 {
         return Inline::Refused { refusal, carry };
     }
-    let all = crate_rules();
-    keep(all, run(all, text, index, StateName::Start, carry), carry)
+    let size = by_t2(rules, carry, 0);
+    keep(
+        rules,
+        run(rules, text, index, StateName::Start, size),
+        carry,
+    )
+}
+
+// The inline scan with all eight changes.
+pub fn inline_scan(text: &[u8], index: usize, carry: u8) -> Inline
+    ensures { λ r. ⌜ inlineOf r ≡ inlineScan ofCrate (now (text .entry)) index carry ⌝ }
+{
+    scan_by(crate_rules(), text, index, carry)
+}
+
+// The inline scan by the standard, with none of the changes: the carry is left as passed.
+pub fn standard_inline_scan(text: &[u8], index: usize, carry: u8) -> Inline
+    ensures { λ r. ⌜ inlineOf r ≡ inlineScan standard (now (text .entry)) index carry ⌝ }
+{
+    scan_by(standard_rules(), text, index, carry)
 }

@@ -15,7 +15,7 @@ use Rattle.rules.specs.Search.{choose, begins, Left, left, nothing}
 use Rattle.rules.specs.Tag.{blockTags, openTag, closingTag}
 use Rattle.rules.specs.Inline.{carrying, keeping, htmlTag, rawHtml, readInline}
 use Rattle.rules.specs.Lines.{Line, isInterrupt}
-use Rattle.rules.specs.Block.{nameOf, startsRaw, startsBasic, fillsLine, startsComplete, mayStart, kindAt, indentation, kindOf, beforeCloser, closes, goesOn, Extent, extentOf, inLast}
+use Rattle.rules.specs.Block.{nameOf, startsRaw, startsBasic, fillsLine, startsComplete, mayStart, kindAt, indentation, kindOf, beforeCloser, closes, goesOn, extentOf, inLast}
 use Rattle.rules.specs.Refusal.{inlineRefusal, blockRefusal}
 use Rattle.rules.specs.Scan.{inlineAt, inlineScan, Found, BlockAnswer, foundBlock, noBlock, blockFound, blockOf, linesAt, blockAt, blockScan}
 use Rattle.rules.specs.Changes.{Unchanged, NoneApplies}
@@ -33,7 +33,7 @@ kept k c (left s) = refl
 kept k c nothing = refl
 
 -- elsewhere the carry is not read
-elsewhere : (ρ : Rules) (k : ℕ) (s : List ℕ) → begins (bytes "<![") s ≡ false → readInline ρ k s ≡ carrying k (htmlTag ρ s)
+pub elsewhere : (ρ : Rules) (k : ℕ) (s : List ℕ) → begins (bytes "<![") s ≡ false → readInline ρ k s ≡ carrying k (htmlTag ρ s)
 unfolding rawHtml readInline
 elsewhere ρ k s e = split (ρ .t2) (λ t. simp (t, e)) (λ t. simp (t, e) (kept k 0 (htmlTag ρ s)))
 
@@ -57,24 +57,14 @@ module _ {A : Type 0} (refuses : Bool) (refused : A) (at : Rules → A) (unchang
   unless-refused h = split refuses (λ e. simp e (unchanged (λ c. simp e at (h c)))) (λ e. simp e)
 
 -- ---- kinds 1 to 6
--- the end of a block reads only F1
-module _ (ρ σ : Rules) (e : ρ .f1 ≡ σ .f1) where
-  closer-alike : (k : ℕ) (s : List ℕ) → beforeCloser ρ k s ≡ beforeCloser σ k s
-  unfolding beforeCloser
-  closer-alike k s = simp e
+-- the closer reads only F1, and that of kind 5 alone
+same-closer : (ρ σ : Rules) → ρ .f1 ≡ σ .f1 → (k : ℕ) (s : List ℕ) → beforeCloser ρ k s ≡ beforeCloser σ k s
+unfolding beforeCloser
+same-closer ρ σ e k s = simp e
 
-  closes-alike : (k : ℕ) (s : List ℕ) → closes ρ k s ≡ closes σ k s
-  unfolding closes
-  closes-alike k s = rw (closer-alike k s)
-
-  goes-alike : (k : ℕ) (ls : List Line) → goesOn ρ k ls ≡ goesOn σ k ls
-  unfolding goesOn
-  goes-alike k [] = refl
-  goes-alike k (l ∷ ls) = simp (closes-alike, goes-alike k ls)
-
-  extent-alike : (k : ℕ) (l : Line) (ls : List Line) → extentOf ρ k l ls ≡ extentOf σ k l ls
-  unfolding extentOf
-  extent-alike k l ls = simp (closes-alike, goes-alike)
+pub other-closer : (ρ σ : Rules) (k : ℕ) → eqb k 5 ≡ false → (s : List ℕ) → beforeCloser ρ k s ≡ beforeCloser σ k s
+unfolding beforeCloser
+other-closer ρ σ k e s = simp e
 
 -- two counts of a line's bytes that agree give the same index in the last line
 last-alike : (f g : List ℕ → ℕ) → ((s : List ℕ) → f s ≡ g s) → (i n : ℕ) (ls : List Line) → inLast f i n ls ≡ inLast g i n ls
@@ -85,24 +75,23 @@ last-alike f g e i (suc zero) (l ∷ ls) = rw (e (l .content))
 last-alike f g e i (suc (suc n)) (l ∷ []) = rw (e (l .content))
 last-alike f g e i (suc (suc n)) (l ∷ m ∷ ls) = last-alike f g e (i + length (l .content) + length (m .lead)) (suc n) (m ∷ ls)
 
-found-alike : (ρ σ : Rules) (k i : ℕ) (l : Line) (ls : List Line) (x y : Extent)
-    → ((s : List ℕ) → beforeCloser ρ k s ≡ beforeCloser σ k s) → x ≡ y → blockFound ρ k i l ls x ≡ blockFound σ k i l ls y
-found-alike ρ σ k i l ls x y e h = rw (h, last-alike (beforeCloser ρ k) (beforeCloser σ k) e i (y .lines) (l ∷ ls))
+-- what is found of kind k reads of the changes what the closer reads
+module _ (ρ σ : Rules) (k : ℕ) (e : (s : List ℕ) → beforeCloser ρ k s ≡ beforeCloser σ k s) where
+  closes-alike : (s : List ℕ) → closes ρ k s ≡ closes σ k s
+  unfolding closes
+  closes-alike s = rw (e s)
 
--- and of kind 7 none
-module _ (ρ σ : Rules) where
-  seven-closer : (s : List ℕ) → beforeCloser ρ 7 s ≡ beforeCloser σ 7 s
-  unfolding beforeCloser
-  seven-closer s = refl
+  goes-alike : (ls : List Line) → goesOn ρ k ls ≡ goesOn σ k ls
+  unfolding goesOn
+  goes-alike [] = refl
+  goes-alike (l ∷ ls) = simp (closes-alike, goes-alike ls)
 
-  seven-goes : (ls : List Line) → goesOn ρ 7 ls ≡ goesOn σ 7 ls
-  unfolding goesOn closes beforeCloser
-  seven-goes [] = refl
-  seven-goes (l ∷ ls) = simp (seven-goes ls)
+  extent-alike : (l : Line) (ls : List Line) → extentOf ρ k l ls ≡ extentOf σ k l ls
+  unfolding extentOf
+  extent-alike l ls = simp (closes-alike, goes-alike)
 
-  seven-extent : (l : Line) (ls : List Line) → extentOf ρ 7 l ls ≡ extentOf σ 7 l ls
-  unfolding extentOf closes beforeCloser
-  seven-extent l ls = simp (seven-goes ls)
+  pub found-alike : (i : ℕ) (l : Line) (ls : List Line) → blockFound ρ k i l ls (extentOf ρ k l ls) ≡ blockFound σ k i l ls (extentOf σ k l ls)
+  found-alike i l ls = rw (extent-alike l ls, last-alike (beforeCloser ρ k) (beforeCloser σ k) e i (extentOf σ k l ls .lines) (l ∷ ls))
 
 -- ---- kind 7
 -- whether a line opens it, where it opens no other
@@ -110,7 +99,7 @@ abbrev pub seventh : Rules → ℕ → List ℕ → Bool
 seventh ρ f s = startsComplete ρ s && mayStart ρ f
 
 -- the kind that a line opens is the same in every reading, or 7 or none by that bit
-data Kinds (κ : Rules → ℕ) : Type 0 where
+pub data Kinds (κ : Rules → ℕ) : Type 0 where
   fixed : (n : ℕ) → ((ρ : Rules) → κ ρ ≡ n) → Kinds κ
   bit : (f : ℕ) (s : List ℕ) → ((ρ : Rules) → κ ρ ≡ choose (seventh ρ f s) (λ _. 7) (λ _. 0)) → Kinds κ
 
@@ -125,7 +114,7 @@ kinds-at f s =
     (λ e. split (startsBasic s) (λ h. fixed 6 (λ ρ. simp (a, b, c, d, e, h)))
     (λ g. bit f s (λ ρ. simp (a, b, c, d, e, g))))))))
 
-kinds : (l : Line) → Kinds (λ ρ. kindOf ρ l)
+pub kinds : (l : Line) → Kinds (λ ρ. kindOf ρ l)
 unfolding kindOf
 kinds l =
     split (leb (indentation (l .content)) 3)
@@ -166,7 +155,7 @@ module _ (f : ℕ) (s : List ℕ) where
   complete-of ρ h = simp h
 
   -- all on takes the line: so does the standard
-  falls : ((c : Change) → seventh (without c) f s ≡ true) → seventh standard f s ≡ true
+  pub falls : ((c : Change) → seventh (without c) f s ≡ true) → seventh standard f s ≡ true
   falls h =
       let may : mayStart standard f ≡ true = and-right (startsComplete (without F6) s) (mayStart (without F6) f) (h F6) in
       split closed (λ e. simp (by-closing standard e, may))
@@ -177,7 +166,7 @@ module _ (f : ℕ) (s : List ℕ) where
       simp (complete-of standard (simp (plain, tag)), may))
 
   -- the standard takes the line: so does the reading without F4
-  grows : seventh standard f s ≡ true → seventh (without F4) f s ≡ true
+  pub grows : seventh standard f s ≡ true → seventh (without F4) f s ≡ true
   grows h =
       let may : not (isInterrupt f) ≡ true = or-true (not (isInterrupt f)) false (and-right (startsComplete standard s) (mayStart standard f) h) refl in
       let complete = and-left (startsComplete standard s) (mayStart standard f) h in
@@ -202,19 +191,19 @@ same-bit false false b e = refl
 
 module _ (i : ℕ) (l : Line) (ls : List Line) where
   -- the answer from the kind
-  abbrev foundOf : Rules → ℕ → Found
+  abbrev pub foundOf : Rules → ℕ → Found
   foundOf ρ n = blockFound ρ n i l ls (extentOf ρ n l ls)
 
-  abbrev byKind : Rules → ℕ → BlockAnswer
+  abbrev pub byKind : Rules → ℕ → BlockAnswer
   byKind ρ n = choose (eqb n 0) (λ _. noBlock) (λ _. foundBlock (foundOf ρ n))
 
-  by-kind : (ρ : Rules) (n : ℕ) → kindOf ρ l ≡ n → blockOf ρ i (l ∷ ls) ≡ byKind ρ n
+  pub by-kind : (ρ : Rules) (n : ℕ) → kindOf ρ l ≡ n → blockOf ρ i (l ∷ ls) ≡ byKind ρ n
   unfolding blockOf
   by-kind ρ n e = rw e
 
-  by-bit : (ρ : Rules) (b : Bool) → kindOf ρ l ≡ choose b (λ _. 7) (λ _. 0)
+  pub by-bit : (ρ : Rules) (b : Bool) → kindOf ρ l ≡ choose b (λ _. 7) (λ _. 0)
       → blockOf ρ i (l ∷ ls) ≡ choose b (λ _. foundBlock (foundOf standard 7)) (λ _. noBlock)
-  by-bit ρ true e = by-kind ρ 7 e ∙ ap foundBlock (found-alike ρ standard 7 i l ls _ _ (seven-closer ρ standard) (seven-extent ρ standard l ls))
+  by-bit ρ true e = by-kind ρ 7 e ∙ ap foundBlock (found-alike ρ standard 7 (other-closer ρ standard 7 refl) i l ls)
   by-bit ρ false e = by-kind ρ 0 e
 
   -- kinds 1 to 6 without F1 are the standard's
@@ -222,7 +211,7 @@ module _ (i : ℕ) (l : Line) (ls : List Line) where
   block-without-F1 n e =
       by-kind (without F1) n (e (without F1))
       ∙ ap (λ b. choose (eqb n 0) (λ _. noBlock) (λ _. foundBlock b))
-      (found-alike (without F1) standard n i l ls _ _ (closer-alike (without F1) standard refl n) (extent-alike (without F1) standard refl n l ls))
+      (found-alike (without F1) standard n (same-closer (without F1) standard refl n) i l ls)
       ∙ sym (by-kind standard n (e standard))
 
   by-kinds : Kinds (λ ρ. kindOf ρ l) → Unchanged (λ ρ. blockOf ρ i (l ∷ ls))

@@ -11,7 +11,7 @@ use Rattle.lexical.specs.Name.{all, sameBytes}
 use Rattle.lexical.proofs.Cases.{clash, and-left, and-right}
 use Rattle.rules.specs.Reading.{Change, crate, standard}
 use Rattle.rules.specs.Scan.{inlineScan, blockScan}
-use Rattle.rules.specs.Changes.{Spares}
+use Rattle.rules.specs.Partings.{Parts, Applies}
 use Rattle.rules.specs.Withhold.{count}
 use Rattle.rules.specs.Private.{isPrivate, Swap, in-line, in-block, SameRuns}
 use Rattle.rules.specs.Rows.{sameInline, sameBlock}
@@ -93,16 +93,29 @@ pub count-differs : Differ crate counted
 count-differs s = told-apart eqb _ _ (eq-eqb (count crate (one counted) (flags counted)) _ refl) (not-true (sameCount crate counted) (and-right (sameShown crate counted) (not (sameCount crate counted)) count-tells)) (s .same-count)
 
 -- ---- demand 2
--- a change is spared at a place
-abbrev pub SparesAt : Place → Change → Type 0
-SparesAt (inText text k) c = Spares (λ ρ. inlineScan ρ text 0 k) c
-SparesAt (inBulletin text flags) c = Spares (λ ρ. blockScan ρ text flags 0) c
+-- a change applies to the scan at a place, and the two readings part there
+abbrev pub AppliesAt : Place → Change → Type 0
+AppliesAt (inText text k) c = Applies (λ ρ. inlineScan ρ text 0 k) c
+AppliesAt (inBulletin text flags) c = Applies (λ ρ. blockScan ρ text flags 0) c
+
+abbrev pub PartsAt : Place → Type 0
+PartsAt (inText text k) = Parts (λ ρ. inlineScan ρ text 0 k)
+PartsAt (inBulletin text flags) = Parts (λ ρ. blockScan ρ text flags 0)
 
 -- each change applies at its place
-pub applies : (c : Change) → ¬ (SparesAt (place c) c)
+pub applies : (c : Change) → AppliesAt (place c) c
 unfolding computing
 applies =
-    eight (λ c. ¬ (SparesAt (place c) c))
+    eight (λ c. AppliesAt (place c) c)
+    (told-apart sameBlock _ _ refl refl) (told-apart sameBlock _ _ refl refl) (told-apart sameBlock _ _ refl refl)
+    (told-apart sameBlock _ _ refl refl) (told-apart sameBlock _ _ refl refl) (told-apart sameBlock _ _ refl refl)
+    (told-apart sameInline _ _ refl refl) (told-apart sameInline _ _ refl refl)
+
+-- 02, Ask 5: and there the readings part
+pub parts : (c : Change) → PartsAt (place c)
+unfolding computing
+parts =
+    eight (λ c. PartsAt (place c))
     (told-apart sameBlock _ _ refl refl) (told-apart sameBlock _ _ refl refl) (told-apart sameBlock _ _ refl refl)
     (told-apart sameBlock _ _ refl refl) (told-apart sameBlock _ _ refl refl) (told-apart sameBlock _ _ refl refl)
     (told-apart sameInline _ _ refl refl) (told-apart sameInline _ _ refl refl)

@@ -14,6 +14,7 @@ pub mod Output
 pub mod Filter
 pub mod Rows
 pub mod Changes
+pub mod Partings
 pub mod Examples
 pub mod Private
 pub mod Computing

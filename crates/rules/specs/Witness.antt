@@ -11,8 +11,9 @@ use Rattle.lexical.specs.Line.{lines}
 use Rattle.lexical.specs.Name.{all, sameBytes}
 use Rattle.rules.specs.Reading.{Change, F1, F2, F3, F4, F5, F6, T1, T2, crate, standard, without}
 use Rattle.rules.specs.Refusal.{bulletinRefusal}
-use Rattle.rules.specs.Scan.{InlineAnswer, foundInline, noInline, refusedInline, inlineScan, BlockAnswer, foundBlock, noBlock, refusedBlock, blockScan}
+use Rattle.rules.specs.Scan.{inlineScan, blockScan}
 use Rattle.rules.specs.Changes.{Spares, Unchanged}
+use Rattle.rules.specs.Partings.{isFoundInline, inlineListed, foundKind, blockListed}
 use Rattle.rules.specs.Withhold.{Which, inline, block, Piece, pieces, shown}
 use Rattle.rules.specs.Private.{isPrivate, any, Form, comment, instruction, declaration, cdata, around, spans, linesText, encloses, Swap, in-line, in-block, TwoRuns}
 use Rattle.rules.specs.Rows.{sameBit, sameInline, sameBlock}
@@ -104,20 +105,10 @@ abbrev pub agree : Place → Rules → Rules → Bool
 agree (inText text k) ρ σ = sameInline (inlineScan ρ text 0 k) (inlineScan σ text 0 k)
 agree (inBulletin text flags) ρ σ = sameBlock (blockScan ρ text flags 0) (blockScan σ text flags 0)
 
-abbrev pub isFoundInline : InlineAnswer → Bool
-isFoundInline (foundInline s k) = true
-isFoundInline (noInline k) = false
-isFoundInline (refusedInline n k) = false
-
-abbrev pub isFoundBlock : BlockAnswer → Bool
-isFoundBlock (foundBlock b) = true
-isFoundBlock noBlock = false
-isFoundBlock (refusedBlock n) = false
-
 -- something is found
 abbrev pub finds : Place → Rules → Bool
 finds (inText text k) ρ = isFoundInline (inlineScan ρ text 0 k)
-finds (inBulletin text flags) ρ = isFoundBlock (blockScan ρ text flags 0)
+finds (inBulletin text flags) ρ = not (eqb (foundKind (blockScan ρ text flags 0)) 0)
 
 -- a change applies, no other does, and the answer is not the standard's
 abbrev pub appliesAlone : Change → Place → Bool
@@ -138,6 +129,32 @@ closerPlace = inBulletin (bytes "<![CDATA[]]]>]]>") (0 ∷ [])
 pub closer-applies : appliesAlone F1 closerPlace ≡ true
 unfolding computing
 closer-applies = refl
+
+-- 02, Ask 5: a change is listed for a place
+abbrev pub isListed : Place → Change → Bool
+isListed (inText text k) c = inlineListed text (inlineScan crate text 0 k) (inlineScan standard text 0 k) c
+isListed (inBulletin text flags) c = blockListed (blockScan crate text flags 0) (blockScan standard text flags 0) c
+
+-- which of the four places it is: both find kind 5, only one finds kind 7, only the standard finds a tag, at `<![`
+abbrev pub clause : Change → ℕ
+clause F1 = 1
+clause F2 = 2
+clause F3 = 2
+clause F4 = 2
+clause F5 = 2
+clause F6 = 2
+clause T1 = 3
+clause T2 = 4
+
+-- at the place of each change, where the readings part, just those of its clause are listed
+pub each-listed : (c : Change) → all (λ d. sameBit (isListed (place c) d) (eqb (clause c) (clause d))) changes ≡ true
+unfolding computing
+each-listed = eight (λ c. all (λ d. sameBit (isListed (place c) d) (eqb (clause c) (clause d))) changes ≡ true) refl refl refl refl refl refl refl refl
+
+-- where only the closer differs, it is F1's; where nothing does, no change is listed
+pub closer-listed : isListed closerPlace F1 ≡ true
+unfolding computing
+closer-listed = refl
 
 pub none-there : all noneApplies calm ≡ true
 unfolding computing

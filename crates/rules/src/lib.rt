@@ -1,6 +1,6 @@
 // What the code shares with the definitions, which are in specs/.
 ghost use mathlib.Core.Path.{_≡_};
-ghost use Rattle.rules.specs.Reading.{crate as ofCrate};
+ghost use Rattle.rules.specs.Reading.{crate as ofCrate, standard};
 
 // Which of the eight changes to CommonMark 0.31.2 a reading makes. All on is the reading of the Rust crate; all off is the standard to the letter.
 pub struct Rules {
@@ -35,6 +35,22 @@ pub fn crate_rules() -> Rules
         f6: true,
         t1: true,
         t2: true,
+    }
+}
+
+// The standard reading: none of the changes is made.
+pub fn standard_rules() -> Rules
+    ensures { λ r. ⌜ r ≡ standard ⌝ }
+{
+    Rules {
+        f1: false,
+        f2: false,
+        f3: false,
+        f4: false,
+        f5: false,
+        f6: false,
+        t1: false,
+        t2: false,
     }
 }
 

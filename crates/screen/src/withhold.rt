@@ -3,7 +3,7 @@ ghost use mathlib.Core.Path.{_≡_};
 ghost use Prim.Native.Nat.{_≤_};
 ghost use lib.Dec.{leb};
 ghost use lib.ListN.{length};
-ghost use Rattle.rules.specs.Reading.{crate as ofCrate};
+ghost use Rattle.rules.specs.Reading.{crate as ofCrate, standard};
 ghost use Rattle.rules.specs.Withhold.{shown, count, withhold as withholdOf, withholdRefusal, written};
 ghost use Rattle.screen.specs.Answer.{shownOf};
 ghost use Rattle.screen.specs.Shows.{Shows};
@@ -12,6 +12,7 @@ use lexical::copy::copy_part;
 use rules::NO_ROOM;
 use rules::Rules;
 use rules::crate_rules;
+use rules::standard_rules;
 use walk::pieces::Next;
 use walk::pieces::at_line;
 use walk::pieces::next_piece;
@@ -97,7 +98,12 @@ fn has_room(rules: Rules, bulletin: &[u8], flags: &[u8], room: usize) -> bool
 }
 
 // Shows a bulletin without its raw HTML, in any reading.
-fn withhold_by(rules: Rules, bulletin: &[u8], flags: &[u8], out: &mut [u8]) -> Withheld
+pub(crate) fn withhold_by(
+    rules: Rules,
+    bulletin: &[u8],
+    flags: &[u8],
+    out: &mut [u8],
+) -> Withheld
     ensures { λ r. ⌜ shownOf r ≡ withholdOf rules (now (bulletin .entry)) (now (flags .entry)) (length (now (out .entry))) ⌝ }
     ensures { λ r. ⌜ now (out .exit) ≡ written (withholdRefusal rules (now (bulletin .entry)) (now (flags .entry)) (length (now (out .entry)))) (shown rules (now (bulletin .entry)) (now (flags .entry))) (now (out .entry)) ⌝ }
 {
@@ -116,6 +122,13 @@ pub fn withhold(bulletin: &[u8], flags: &[u8], out: &mut [u8]) -> Withheld
     ensures { λ r. ⌜ shownOf r ≡ withholdOf ofCrate (now (bulletin .entry)) (now (flags .entry)) (length (now (out .entry))) ⌝ }
     ensures { λ r. ⌜ now (out .exit) ≡ written (withholdRefusal ofCrate (now (bulletin .entry)) (now (flags .entry)) (length (now (out .entry)))) (shown ofCrate (now (bulletin .entry)) (now (flags .entry))) (now (out .entry)) ⌝ }
 {
-    let all = crate_rules();
-    withhold_by(all, bulletin, flags, out)
+    withhold_by(crate_rules(), bulletin, flags, out)
+}
+
+// Shows a bulletin without its raw HTML by the standard, with none of the changes.
+pub fn standard_withhold(bulletin: &[u8], flags: &[u8], out: &mut [u8]) -> Withheld
+    ensures { λ r. ⌜ shownOf r ≡ withholdOf standard (now (bulletin .entry)) (now (flags .entry)) (length (now (out .entry))) ⌝ }
+    ensures { λ r. ⌜ now (out .exit) ≡ written (withholdRefusal standard (now (bulletin .entry)) (now (flags .entry)) (length (now (out .entry)))) (shown standard (now (bulletin .entry)) (now (flags .entry))) (now (out .entry)) ⌝ }
+{
+    withhold_by(standard_rules(), bulletin, flags, out)
 }

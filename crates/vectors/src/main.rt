@@ -15,7 +15,7 @@
 //
 // 437 of where the closer begins: 353 by the block scan (`C`), the rows of 02, Ask 2, and more ends of blocks of kinds 1 to 5, each as it stands, indented, on a further
 // line, behind CR LF and CR, on a lazy line, behind a paragraph, and without its last byte; kinds 6 and 7, none, and the refusals 2, 3 and 4. Kind, stop and closer
-// are those of the Rust crate markdown 1.0.0, from compare. 84 with none of the changes (`c`): the first place in the lines that 4.6 of CommonMark 0.31.2 says.
+// are those of the Rust crate markdown 1.0.0, from compare. 84 by the standard (`c`): the first place in the lines that 4.6 of CommonMark 0.31.2 says.
 //
 // 79 of traces: the bytes of written traces (`I`, `B`) are those of the Rust crate markdown 1.0.0, from compare; records read (`e`) and refusals are worked out by hand.
 //
@@ -27,6 +27,13 @@
 // lazy and interrupting lines, the three line endings, tabs, blank lines and the empty last line; paragraphs next to blocks; inline pieces over several lines; openings
 // that no closer follows, and closed ones behind them and in the next paragraph; and bulletins that differ in a private piece. The pieces are those that the Rust crate
 // markdown 1.0.0 finds, from compare, where 01's Withhold paragraph has it scan; the refusals are 01's table.
+//
+// 250 of the tag filter (`g`), for 02, Ask 4: the pieces are those of the Rust crate markdown 1.0.0, and the tags in them were found by a regular expression.
+//
+// 872 by the standard, for 02, Ask 5: every text of `i`, `b` and `w` above, CommonMark's examples among them, through the inline scan (`j`), the block scan (`d`) and
+// withholding (`W`); then each of the eight places where the readings part (also by `c`), `<a>` with flags 0 to 3, `<![` and what begins so with carries 0 to 6, and
+// the refusals. The answers are those of a model of 4.6 and 6.6 of CommonMark 0.31.2 that was made for them, of regular expressions and 01's flags and stops; of
+// the first 726 they are the answers above but in 36, where one of the eight applies.
 fn main() {
     cases::run::all();
 }

@@ -1,4 +1,4 @@
--- Each arm knows the answer of the scan. A found block is handed on field by field: the number of its kind, and 1 or 0 for the closer.
+-- Each arm knows the answer. A found block is handed on field by field: the number of its kind, and 1 or 0 for the closer.
 use mathlib.Core.Path.{_≡_, refl, sym, ap, _∙_}
 use Prim.Native.Nat.{ℕ}
 use mathlib.Core.Bool.{Bool, true, false}
@@ -8,8 +8,8 @@ use Rattle.flow.specs.Answer.{blockAnswerOf}
 use Rattle.foringamo.specs.declared.block.BlockResult.{BlockResult}
 use Rattle.foringamo.specs.Result.{flag, blockResult}
 use borrow.Author.Needs.{needs}
-use Rattle.foringamo.proofs.block.foringamo_block_scan.Statement.{statement}
-use Rattle.foringamo.proofs.block.foringamo_block_scan.Tie as tie
+use Rattle.foringamo.proofs.block.block_result.Statement.{statement}
+use Rattle.foringamo.proofs.block.block_result.Tie as tie
 
 flag-is : (b : Bool) → boolByte b ≡ flag b
 flag-is true = refl
@@ -18,9 +18,6 @@ flag-is false = refl
 found : {a : BlockAnswer} (b : Found) (kind : ℕ) → kind ≡ b .kind → foundBlock b ≡ a
     → _≡_ {A = BlockResult} (record { refusal = 0; kind = kind; closed = boolByte (b .closed); name = b .name; stop = b .stop; closer = b .closer }) (blockResult a)
 found b kind k e = rw (k, flag-is (b .closed)) (ap blockResult e)
-
-block-scan-requires : tie.Need-block-scan-requires
-block-scan-requires c κs = search needs
 
 enum-known-found : tie.Need-enum-known-found
 enum-known-found c = search needs
@@ -47,11 +44,10 @@ returns-2 c = ap blockResult (sym (ap blockAnswerOf (c .enum-told .given .1)) �
 returns-3 : tie.Need-returns-3
 returns-3 c = ap blockResult (sym (ap blockAnswerOf (c .before .refusal .given .1)) ∙ c .before .before .before .block-scan .ensures)
 
-pub foringamo-block-scan-spec : {M : Type 1} → statement M
-foringamo-block-scan-spec =
+pub block-result-spec : {M : Type 1} → statement M
+block-result-spec =
     tie.close
     (tie.spec
-    block-scan-requires
     enum-known-found
     kind-number-requires
     cast-t10

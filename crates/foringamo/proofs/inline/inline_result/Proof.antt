@@ -1,13 +1,10 @@
--- Each arm knows the answer of the scan.
+-- Each arm knows the answer.
 use mathlib.Core.Path.{sym, ap, _∙_}
 use Rattle.html.specs.Answer.{inlineOf}
 use Rattle.foringamo.specs.Result.{inlineResult}
 use borrow.Author.Needs.{needs}
-use Rattle.foringamo.proofs.inline.foringamo_inline_scan.Statement.{statement}
-use Rattle.foringamo.proofs.inline.foringamo_inline_scan.Tie as tie
-
-inline-scan-requires : tie.Need-inline-scan-requires
-inline-scan-requires c κs = search needs
+use Rattle.foringamo.proofs.inline.inline_result.Statement.{statement}
+use Rattle.foringamo.proofs.inline.inline_result.Tie as tie
 
 enum-known-stop : tie.Need-enum-known-stop
 enum-known-stop c = search needs
@@ -27,11 +24,10 @@ returns-2 c = ap inlineResult (sym (ap inlineOf (c .before .left .given .1)) ∙
 returns-3 : tie.Need-returns-3
 returns-3 c = ap inlineResult (sym (ap inlineOf (c .before .refusal .given .1)) ∙ c .before .before .before .inline-scan .ensures)
 
-pub foringamo-inline-scan-spec : {M : Type 1} → statement M
-foringamo-inline-scan-spec =
+pub inline-result-spec : {M : Type 1} → statement M
+inline-result-spec =
     tie.close
     (tie.spec
-    inline-scan-requires
     enum-known-stop
     enum-known-left
     enum-known-refusal

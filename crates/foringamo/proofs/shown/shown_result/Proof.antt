@@ -1,10 +1,10 @@
--- Each arm knows the answer of withholding, which leaves in the buffer what it promises.
+-- Each arm knows the answer.
 use mathlib.Core.Path.{sym, ap, _∙_}
 use Rattle.screen.specs.Answer.{shownOf}
 use Rattle.foringamo.specs.Result.{shownResult}
 use borrow.Author.Needs.{needs}
-use Rattle.foringamo.proofs.shown.foringamo_withhold.Statement.{statement}
-use Rattle.foringamo.proofs.shown.foringamo_withhold.Tie as tie
+use Rattle.foringamo.proofs.shown.shown_result.Statement.{statement}
+use Rattle.foringamo.proofs.shown.shown_result.Tie as tie
 
 withhold-requires : tie.Need-withhold-requires
 withhold-requires c κs = search needs
@@ -31,8 +31,8 @@ returns-2 c =
     let e = c .before .before .before .before .before .withhold .ensures in
     (ap shownResult (sym (ap shownOf (c .before .refusal .given .1)) ∙ e .0), e .1)
 
-pub foringamo-withhold-spec : {M : Type 1} → statement M
-foringamo-withhold-spec =
+pub shown-result-spec : {M : Type 1} → statement M
+shown-result-spec =
     tie.close
     (tie.spec
     withhold-requires
