@@ -1,0 +1,19 @@
+use mathlib.Core.Path.{_∙_, ap}
+use Rattle.rules.specs.Scan.{inlineScan}
+use borrow.Author.Needs.{needs}
+use Rattle.html.proofs.scan.standard_inline_scan.Statement.{statement}
+use Rattle.html.proofs.scan.standard_inline_scan.Tie as tie
+
+standard-rules-requires : tie.Need-standard-rules-requires
+standard-rules-requires c κs = search needs
+
+scan-by-requires : tie.Need-scan-by-requires
+scan-by-requires c κs = search needs
+
+returns : tie.Need-returns
+returns c =
+    let a = c .before .before .before .args in
+    c .scan-by .ensures ∙ ap (λ ρ. inlineScan ρ (a .text .now) (a .index) (a .carry)) (c .before .standard-rules .ensures)
+
+pub standard-inline-scan-spec : {M : Type 1} → statement M
+standard-inline-scan-spec = tie.close (tie.spec standard-rules-requires scan-by-requires returns)
