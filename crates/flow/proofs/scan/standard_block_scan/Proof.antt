@@ -1,5 +1,3 @@
-use mathlib.Core.Path.{_∙_, ap}
-use Rattle.rules.specs.Scan.{blockScan}
 use borrow.Author.Needs.{needs}
 use Rattle.flow.proofs.scan.standard_block_scan.Statement.{statement}
 use Rattle.flow.proofs.scan.standard_block_scan.Tie as tie
@@ -11,9 +9,7 @@ scan-by-requires : tie.Need-scan-by-requires
 scan-by-requires c κs = search needs
 
 returns : tie.Need-returns
-returns c =
-    let a = c .before .before .before .before .args in
-    c .scan-by .ensures ∙ ap (λ ρ. blockScan ρ (a .bulletin .now) (a .flags .now) (a .index)) (c .before .standard-rules .ensures)
+returns c = rw (c .before .standard-rules .ensures) at (c .scan-by .ensures)
 
 pub standard-block-scan-spec : {M : Type 1} → statement M
 standard-block-scan-spec = tie.close (tie.spec standard-rules-requires scan-by-requires returns)

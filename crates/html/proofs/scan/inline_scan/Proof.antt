@@ -1,5 +1,3 @@
-use mathlib.Core.Path.{_∙_, ap}
-use Rattle.rules.specs.Scan.{inlineScan}
 use borrow.Author.Needs.{needs}
 use Rattle.html.proofs.scan.inline_scan.Statement.{statement}
 use Rattle.html.proofs.scan.inline_scan.Tie as tie
@@ -11,9 +9,7 @@ scan-by-requires : tie.Need-scan-by-requires
 scan-by-requires c κs = search needs
 
 returns : tie.Need-returns
-returns c =
-    let a = c .before .before .before .args in
-    c .scan-by .ensures ∙ ap (λ ρ. inlineScan ρ (a .text .now) (a .index) (a .carry)) (c .before .crate-rules .ensures)
+returns c = rw (c .before .crate-rules .ensures) at (c .scan-by .ensures)
 
 pub inline-scan-spec : {M : Type 1} → statement M
 inline-scan-spec = tie.close (tie.spec crate-rules-requires scan-by-requires returns)

@@ -1,6 +1,3 @@
-use mathlib.Core.Path.{_∙_, ap}
-use lib.ListN.{length}
-use Rattle.rules.specs.Withhold.{shown, withhold as withholdOf, withholdRefusal, written}
 use borrow.Author.Needs.{needs}
 use Rattle.screen.proofs.withhold.withhold.Statement.{statement}
 use Rattle.screen.proofs.withhold.withhold.Tie as tie
@@ -15,13 +12,7 @@ same-length : tie.Need-same-length
 same-length c = search needs
 
 returns : tie.Need-returns
-returns c =
-    let a = c .before .before .before .before .before .before .before .before .args in
-    let all = c .before .before .before .before .crate-rules .ensures in
-    let w = c .before .before .withhold-by .ensures in (
-      w .0 ∙ ap (λ ρ. withholdOf ρ (a .bulletin .now) (a .flags .now) (length (a .out .now))) all,
-      w .1 ∙ ap (λ ρ. written (withholdRefusal ρ (a .bulletin .now) (a .flags .now) (length (a .out .now))) (shown ρ (a .bulletin .now) (a .flags .now)) (a .out .now)) all,
-    )
+returns c = rw (c .before .before .before .before .crate-rules .ensures) at (c .before .before .withhold-by .ensures)
 
 pub withhold-spec : {M : Type 1} → statement M
 withhold-spec = tie.close (tie.spec crate-rules-requires withhold-by-requires same-length returns)
