@@ -3,16 +3,17 @@
  *
  *     cmark [--seed N] [--count N]
  *
- * Five kinds of comparison, each on N texts: the inline pieces of paragraphs; the blocks and inline pieces of bulletins; withholding, against the pieces that the
- * scans find; blocks in a block quote, some lines of which are lazy (flag 1); and blocks behind a paragraph in a block quote, without its marker (flag 3). A text is
- * skipped where a line may begin a construct of Markdown that the library does not know.
+ * Five kinds of comparison, each on N texts: the inline pieces of paragraphs; the blocks and inline pieces of bulletins; withholding, against the pieces that
+ * both scans find; blocks in a block quote, some lines of which are lazy (flag 1); and blocks behind a paragraph in a block quote, without its marker (flag 3). A
+ * text is skipped where a line may begin a construct of Markdown that the library does not know.
  *
- * libcmark departs from CommonMark 0.31.2 in some places; those known are the list `classes`. At a difference, a third reading decides: the standard's, written down
- * once more below, in which each departure can be made. Without any it must find what the library finds; with all that libcmark has it must find what libcmark finds,
- * up to the first piece in which the two differ; and the class is the departure that by itself changes that piece. All other differences are failures.
+ * libcmark departs from CommonMark 0.31.2 in some places; those known are the list `classes`. Where it does, it says nothing of the library. So there is a third
+ * reading, below, by the standard's rules with any of the departures. Without them it must find in every text what the library finds. Where libcmark differs, it
+ * must find with all that libcmark has what libcmark finds, up to the first piece that differs; the class is the departure that by itself changes that piece, and
+ * what follows in the text is not compared. Every other difference is a failure.
  *
- * For each kind a line with its numbers, and for each class met, and for what no class explains, a line with a short text. The last line is 'N passed, M failed',
- * one for each kind.
+ * For each kind a line with its numbers, and for each class that was met, or for differences of none, a line with a short text. The last line is
+ * 'N passed, M failed', one for each kind.
  */
 #include <cmark.h>
 #include <stdio.h>
@@ -35,7 +36,7 @@
 /* Kinds of blocks. */
 enum { NO_BLOCK, RAW, COMMENT, INSTRUCTION, DECLARATION, CDATA, BASIC, COMPLETE };
 
-/* A tab leads to the next of these columns, and so many make indented code. The marker of a block quote has as many, so tabs lead as far behind it as without it. */
+/* Columns from one tab stop to the next, and of indented code. The marker of a block quote is as wide, so tabs are behind it as wide as without it. */
 #define TAB_STOP 4
 #define QUOTE "  > "
 
@@ -44,6 +45,9 @@ enum { NO_BLOCK, RAW, COMMENT, INSTRUCTION, DECLARATION, CDATA, BASIC, COMPLETE 
 
 /* No piece, where a stop is asked for. */
 #define NONE 0
+
+/* The carry of an inline scan, which the standard takes no notice of. */
+#define MOST_CARRY 5
 
 typedef struct {
     size_t length;
@@ -66,7 +70,7 @@ typedef struct {
 typedef struct {
     size_t count;
     piece at[PIECES];
-    int refused; /* a scan was refused, or its stop cannot be */
+    int refused; /* a scan was refused, or says what cannot be */
     int other;   /* a line may begin another construct: not to be compared */
 } pieces;
 
@@ -109,9 +113,9 @@ static const struct {
     const char *markdown;
 } classes[] = {
     {"inline comments by 0.30: text without > or -> in front, without -- in it, without - at the end", INLINE_TEXTS, "x<!-->"},
-    {"inline instructions: ? takes the byte behind it along unless that is >", INLINE_TEXTS, "x<???>"},
-    {"inline CDATA: ]] takes the byte behind it along unless that is >", INLINE_TEXTS, "x<![CDATA[]]]>"},
-    {"CDATA in small letters", INLINE_TEXTS, "x<![cdata[]]>"},
+    {"inline instructions: ? takes the byte behind it along but for >; where one does not end, none is tried behind it", INLINE_TEXTS, "x<??\?>"},
+    {"inline CDATA: ]] takes the byte behind it along but for >", INLINE_TEXTS, "x<![CDATA[]]]>"},
+    {"CDATA in any letter case", INLINE_TEXTS, "x<![cdata[]]>"},
     {"inline declarations by 0.29: a name in capital letters, and whitespace behind it", INLINE_TEXTS, "x<!A>"},
     {"declarations as blocks by 0.29: a capital letter", BULLETINS, "<!a"},
     {"form feed and line tabulation are whitespace", INLINE_TEXTS, "x<a\f>"},
@@ -168,18 +172,24 @@ static const char *const values[] = {
     "=/", "=/v", "=v/", "=v/w", "=http://v/w", " =v", "= v", " = 'v'", "\n=\nv", "\t=\t\"v\"", "=", " =", "= ", "==v", "=v=w", "=v'", "=v\"w",
     "='v", "=\"v", "='v'w", "=<", "=v<w", "=v;w", "=?", "=!-", "=\f", "=v\fw", "=v\vw", "=\v'v'",
 };
-static const char *const tag_ends[] = {">", ">", ">", ">", "/>", " >", " />", "\n>", "\t/>", "/ >", "//>", "x>", "", "<", "=>", "\f>", "\v/>", "> ", ">\t", ">\f", ">\v"};
+static const char *const tag_ends[] = {
+    ">", ">", ">", ">", "/>", " >", " />", "\n>", "\t/>", "/ >", "//>", "x>", "", "<", "=>", "\f>", "\v/>", "> ", ">\t", ">\f", ">\v",
+};
 
 static const char *const comment_starts[] = {"<!--", "<!--", "<!--", "<!--", "<!-->", "<!--->", "<!---", "<!----", "<!-", "<!"};
 static const char *const comment_body[] = {"-", "-", "--", "---", ">", "->", "-->", "a", " ", "<", "!", "\n", "--!>", "<!--", " -- "};
 static const char *const comment_ends[] = {"-->", "-->", "-->", "-->", "--->", "---->", "--", "->", ">", "--!>", ""};
 static const char *const instruction_starts[] = {"<?", "<?", "<?", "<?", "<?php ", "<? ", "< ?"};
 static const char *const instruction_body[] = {"?", "?", "??", ">", "a", " ", "<", "<?", "\n", "/"};
-static const char *const instruction_ends[] = {"?>", "?>", "?>", "?>", "??>", "???>", "?", ">", "? >", ""};
-static const char *const cdata_starts[] = {"<![CDATA[", "<![CDATA[", "<![CDATA[", "<![cdata[", "<![CdATA[", "<![CDATA", "<![CDA", "<![", "<!CDATA[", "<![CDATA[["};
+static const char *const instruction_ends[] = {"?>", "?>", "?>", "?>", "?\?>", "??\?>", "?", ">", "? >", ""};
+static const char *const cdata_starts[] = {
+    "<![CDATA[", "<![CDATA[", "<![CDATA[", "<![CDATA[", "<![cdata[", "<![CdATA[", "<![CDATA", "<![CDA", "<![", "<!CDATA[", "<![CDATA[[",
+};
 static const char *const cdata_body[] = {"]", "]", "]]", "]]]", ">", "]>", "a", " ", "<", "[", "\n", "<![CDATA["};
 static const char *const cdata_ends[] = {"]]>", "]]>", "]]>", "]]>", "]]]>", "]]]]>", "]]]]]>", "]>", "]]", ">", ""};
-static const char *const declaration_starts[] = {"<!A", "<!a", "<!Z", "<!z", "<!DOCTYPE", "<!doctype", "<!Doctype", "<!ELEMENT", "<!1", "<!", "<!_", "<! A", "<!@", "<!{"};
+static const char *const declaration_starts[] = {
+    "<!A", "<!a", "<!Z", "<!z", "<!DOCTYPE", "<!doctype", "<!Doctype", "<!ELEMENT", "<!1", "<!", "<!_", "<! A", "<!@", "<!{",
+};
 static const char *const declaration_body[] = {" ", " ", "\t", "\n", " html", "a", "A", "1", "<", "'", "\"", "-", "\f"};
 static const char *const declaration_ends[] = {">", ">", ">", ">", " >", "\n>", ">>", ""};
 
@@ -190,7 +200,8 @@ static const char *const fragments[] = {
 };
 static const char *const indentations[] = {"", "", "", "", "", "", "", " ", "  ", "   ", "   ", "    ", "\t", " \t", "\f"};
 static const char *const closers[] = {
-    "-->", "--->", "?>", "??>", ">", "]]>", "]]]>", "</pre>", "</PRE>", "</script>", "</style>", "</Textarea>", "</pre >", "</pre", "</a>", "</div>", "a-->", "a ?>", "a]]>",
+    "-->", "--->", "?>", "?\?>", ">", "]]>", "]]]>", "</pre>", "</PRE>", "</script>", "</style>", "</Textarea>", "</pre >", "</pre", "</a>", "</div>",
+    "a-->", "a ?>", "a]]>",
 };
 static const char changes[] = "<>!-?[]/='\" \t\n\f\vaAbZ1_:.";
 
@@ -307,7 +318,8 @@ static maker *const constructs[] = {
 
 /* What a line begins with. */
 static maker *const openings[] = {
-    tag, tag, tag, tag, block_tag, block_tag, block_tag, raw_tag, raw_tag, comment_like, instruction_like, cdata_like, declaration_like, word, word, fragment, closer, closer,
+    tag, tag, tag, tag, block_tag, block_tag, block_tag, raw_tag, raw_tag, comment_like, instruction_like, cdata_like, declaration_like, word, word, fragment,
+    closer, closer,
 };
 
 /* Some bytes deleted, changed, put in or said twice. */
@@ -818,8 +830,9 @@ static size_t inline_stop(const text *t, size_t start, size_t limit, size_t inde
     if (by != LIBRARY) {
         return inline_by_rule(t, index, limit, by);
     }
-    foringamo_inline r = foringamo_standard_inline_scan(t->bytes + start, limit - start, index - start, 0);
-    if (cannot_be(r.refusal, r.found, index - start, r.stop, limit - start)) {
+    uint8_t carry = (uint8_t)(index % (MOST_CARRY + 1));
+    foringamo_inline r = foringamo_standard_inline_scan(t->bytes + start, limit - start, index - start, carry);
+    if (r.carry != carry || cannot_be(r.refusal, r.found, index - start, r.stop, limit - start)) {
         found->refused = 1;
         return NONE;
     }
@@ -832,10 +845,14 @@ static void add_piece(pieces *found, int is_block, size_t start, size_t stop) {
 }
 
 static void read_paragraph(const text *t, size_t start, size_t limit, unsigned by, pieces *found) {
+    int no_instructions = 0;
     size_t index = start;
     while (index < limit && !found->refused) {
-        size_t stop = t->bytes[index] == '<' ? inline_stop(t, start, limit, index, by, found) : NONE;
+        int is_instruction = begins(t, index, limit, "<?");
+        int is_tried = t->bytes[index] == '<' && !(is_instruction && no_instructions);
+        size_t stop = is_tried ? inline_stop(t, start, limit, index, by, found) : NONE;
         if (stop == NONE) {
+            no_instructions = no_instructions || (is_instruction && (by & INSTRUCTION_PAIRS));
             index++;
         } else {
             add_piece(found, 0, index, stop);
@@ -1058,16 +1075,14 @@ static size_t first_difference(const text *t, const pieces *ours, const parsed *
 /* The class of a difference whose first piece has this number. */
 static int explain(int kind, const sample *s, const pieces *ours, const parsed *theirs, size_t number) {
     pieces read;
-    read_sample(kind, s, STANDARD, &read);
-    if (ours->refused || !same_pieces(ours, &read)) {
-        return UNKNOWN;
-    }
     read_sample(kind, s, departures, &read);
     if (read.other) {
         return SKIPPED;
     }
-    if (first_difference(&s->markdown, &read, theirs) <= number && !same_as_parsed(&s->markdown, &read, theirs, number)) {
-        return UNKNOWN;
+    for (size_t before = 0; before <= number; before++) {
+        if (!same_as_parsed(&s->markdown, &read, theirs, before)) {
+            return UNKNOWN;
+        }
     }
     for (int class = 0; class < (int)CLASSES; class++) {
         read_sample(kind, s, departures & (1U << class), &read);
@@ -1109,15 +1124,20 @@ static int judge(int kind, const sample *s, size_t *count) {
         return withholds(s, count);
     }
     pieces ours;
+    pieces read;
     parsed theirs;
     read_sample(kind, s, LIBRARY, &ours);
     *count = ours.count;
     if (ours.other) {
         return SKIPPED;
     }
+    read_sample(kind, s, STANDARD, &read);
+    if (ours.refused || !same_pieces(&ours, &read)) {
+        return UNKNOWN;
+    }
     parse_sample(kind, s, &theirs);
     size_t number = first_difference(&s->markdown, &ours, &theirs);
-    int agrees = !ours.refused && number >= ours.count && number >= theirs.count;
+    int agrees = number >= ours.count && number >= theirs.count;
     int verdict = agrees ? AGREES : explain(kind, s, &ours, &theirs, number);
     cmark_node_free(theirs.document);
     return verdict;
@@ -1175,29 +1195,64 @@ static void show(const uint8_t *bytes, size_t length) {
     putchar('`');
 }
 
-/* The first piece in which the two differ. */
-static void show_difference(int kind, const sample *s) {
-    const text *t = &s->markdown;
-    pieces ours;
-    parsed theirs;
-    read_sample(kind, s, LIBRARY, &ours);
-    parse_sample(kind, s, &theirs);
-    size_t number = first_difference(t, &ours, &theirs);
-    printf(": the library has ");
-    if (number < ours.count) {
-        printf(ours.at[number].is_block ? "block " : "inline ");
-        show(t->bytes + ours.at[number].start, ours.at[number].stop - ours.at[number].start);
+static void show_piece(const text *t, const pieces *found, size_t number) {
+    if (number < found->count) {
+        const piece *p = &found->at[number];
+        printf(p->is_block ? "block " : "inline ");
+        show(t->bytes + p->start, p->stop - p->start);
     } else {
-        printf(ours.refused ? "a refusal" : "none");
+        printf(found->refused ? "a refusal" : "none");
     }
-    printf(", libcmark ");
-    if (number < theirs.count) {
-        printf(theirs.at[number].is_block ? "block " : "inline ");
-        show((const uint8_t *)theirs.at[number].literal, strlen(theirs.at[number].literal));
+}
+
+static void show_parsed(const parsed *theirs, size_t number) {
+    if (number < theirs->count) {
+        printf(theirs->at[number].is_block ? "block " : "inline ");
+        show((const uint8_t *)theirs->at[number].literal, strlen(theirs->at[number].literal));
     } else {
         printf("none");
     }
+}
+
+/* The first piece in which the library differs from libcmark, or from the rules. */
+static void show_difference(int kind, const sample *s) {
+    const text *t = &s->markdown;
+    pieces ours;
+    pieces read;
+    parsed theirs;
+    read_sample(kind, s, LIBRARY, &ours);
+    read_sample(kind, s, STANDARD, &read);
+    parse_sample(kind, s, &theirs);
+    size_t number = 0;
+    while (number < ours.count && same_as_parsed(t, &ours, &theirs, number) && same_piece(&ours, &read, number)) {
+        number++;
+    }
+    printf(": the library has ");
+    show_piece(t, &ours, number);
+    if (!same_piece(&ours, &read, number)) {
+        printf(", the rules ");
+        show_piece(t, &read, number);
+    }
+    printf(", libcmark ");
+    show_parsed(&theirs, number);
     cmark_node_free(theirs.document);
+}
+
+/* What withholding gives, and the pieces that the scans find. */
+static void show_withheld(const sample *s) {
+    const text *t = &s->markdown;
+    uint8_t flags[ROOM + 1];
+    uint8_t out[ROOM + 1];
+    pieces ours = {0};
+    read_bulletin(t, flags, LIBRARY, &ours);
+    foringamo_shown r = foringamo_standard_withhold(t->bytes, t->length, flags, endings_between(t, 0, t->length) + 1, out, t->length);
+    printf(": refusal %d, %zu pieces, shown ", r.refusal, r.pieces);
+    show(out, r.length < t->length ? r.length : t->length);
+    printf("; the scans have %zu", ours.count);
+    for (size_t number = 0; number < ours.count; number++) {
+        putchar(' ');
+        show_piece(t, &ours, number);
+    }
 }
 
 static void show_sample(int kind, const sample *s) {
@@ -1209,7 +1264,9 @@ static void show_sample(int kind, const sample *s) {
             printf(" %d", s->lazy[number]);
         }
     }
-    if (kind != WITHHOLDING) {
+    if (kind == WITHHOLDING) {
+        show_withheld(s);
+    } else {
         show_difference(kind, s);
     }
     putchar('\n');
