@@ -143,7 +143,7 @@ static size_t below(size_t limit) {
 }
 
 /* How often something is done: once in so many times. */
-enum { MOSTLY = 2, OFTEN = 3, SOMETIMES = 4, SELDOM = 8, RARELY = 32 };
+enum { MOSTLY = 2, OFTEN = 3, SOMETIMES = 4, SELDOM = 8 };
 
 static int once_in(size_t times) {
     return below(times) == 0;
@@ -176,21 +176,27 @@ static const char *const tag_ends[] = {
     ">", ">", ">", ">", "/>", " >", " />", "\n>", "\t/>", "/ >", "//>", "x>", "", "<", "=>", "\f>", "\v/>", "> ", ">\t", ">\f", ">\v",
 };
 
-static const char *const comment_starts[] = {"<!--", "<!--", "<!--", "<!--", "<!-->", "<!--->", "<!---", "<!----", "<!-", "<!"};
-static const char *const comment_body[] = {"-", "-", "--", "---", ">", "->", "-->", "a", " ", "<", "!", "\n", "--!>", "<!--", " -- "};
-static const char *const comment_ends[] = {"-->", "-->", "-->", "-->", "--->", "---->", "--", "->", ">", "--!>", ""};
+static const char *const comment_starts[] = {
+    "<!--", "<!--", "<!--", "<!--a", "<!--a", "<!-- ", "<!-- ", "<!-- ", "<!--\n", "<!--\n", "<!-->", "<!--->", "<!---", "<!----", "<!-",
+};
+static const char *const comment_body[] = {
+    "a", "a>", "<b>", " ", " ", " ", "-a", "- ", "<", "<!", "</", "!", "?>", "]]>", "\n", "\n", ">", "a->", "-", "--", "-->", "--!>", "<!--",
+};
+static const char *const comment_ends[] = {
+    "-->", "-->", "-->", " -->", " -->", " -->", "a-->", "a-->", ">-->", "\n-->", "\n-->", "--->", "---->", "--", "->", "--!>", "",
+};
 static const char *const instruction_starts[] = {"<?", "<?", "<?", "<?", "<?php ", "<? ", "< ?"};
-static const char *const instruction_body[] = {"?", "?", "??", ">", "a", " ", "<", "<?", "\n", "/"};
-static const char *const instruction_ends[] = {"?>", "?>", "?>", "?>", "?\?>", "??\?>", "?", ">", "? >", ""};
+static const char *const instruction_body[] = {"?", "?a", "??", ">", "a", " ", "<", "<?", "\n", "/", "?>"};
+static const char *const instruction_ends[] = {"?>", "?>", "?>", "?>", " ?>", "a?>", "?\?>", "??\?>", "?", ">", "? >", ""};
 static const char *const cdata_starts[] = {
     "<![CDATA[", "<![CDATA[", "<![CDATA[", "<![CDATA[", "<![cdata[", "<![CdATA[", "<![CDATA", "<![CDA", "<![", "<!CDATA[", "<![CDATA[[",
 };
 static const char *const cdata_body[] = {"]", "]", "]]", "]]]", ">", "]>", "a", " ", "<", "[", "\n", "<![CDATA["};
 static const char *const cdata_ends[] = {"]]>", "]]>", "]]>", "]]>", "]]]>", "]]]]>", "]]]]]>", "]>", "]]", ">", ""};
 static const char *const declaration_starts[] = {
-    "<!A", "<!a", "<!Z", "<!z", "<!DOCTYPE", "<!doctype", "<!Doctype", "<!ELEMENT", "<!1", "<!", "<!_", "<! A", "<!@", "<!{",
+    "<!A ", "<!Z\n", "<!AZ\t", "<!DOCTYPE ", "<!ELEMENT ", "<!A", "<!a", "<!Z", "<!z ", "<!DOCTYPE", "<!doctype ", "<!1", "<!", "<!_", "<! A", "<!@", "<!{",
 };
-static const char *const declaration_body[] = {" ", " ", "\t", "\n", " html", "a", "A", "1", "<", "'", "\"", "-", "\f"};
+static const char *const declaration_body[] = {" ", "\t", "\n", " html", "a", "A", "1", "<", "'", "\"", "-", "\f"};
 static const char *const declaration_ends[] = {">", ">", ">", ">", " >", "\n>", ">>", ""};
 
 static const char *const words[] = {"a", "b ", " c", "word ", "1", ".", "; ", " ", "&lt;", "&amp", "%", "$", "\n"};
@@ -198,7 +204,7 @@ static const char *const fragments[] = {
     "<", "<", "<", ">", ">", "/>", "</", "<!", "<!-", "--", "-", "?", "?>", "]]>", "]", "[", "=", "'", "\"", "/", "_", ":", "!", "\n", "\n", "\t", " ",
     "<a:b>", "<ab:c>", "<ab:?>", "<a@b.c>", "< a>", "<>", "</>", "</ a>", "<a<b>", "<a></a>", "</pre>", "</SCRIPT>", "</style >", "</textarea", "-->", "\f", "\v",
 };
-static const char *const indentations[] = {"", "", "", "", "", "", "", " ", "  ", "   ", "   ", "    ", "\t", " \t", "\f"};
+static const char *const indentations[] = {"", "", "", "", "", "", "", "", "", "", "", "", "", "", "", " ", "  ", "   ", "   ", "    ", "\t", " \t", "\f"};
 static const char *const closers[] = {
     "-->", "--->", "?>", "?\?>", ">", "]]>", "]]]>", "</pre>", "</PRE>", "</script>", "</style>", "</Textarea>", "</pre >", "</pre", "</a>", "</div>",
     "a-->", "a ?>", "a]]>",
@@ -223,6 +229,10 @@ static uint8_t lower(uint8_t byte) {
 
 static uint8_t upper(uint8_t byte) {
     return byte >= 'a' && byte <= 'z' ? (uint8_t)(byte - 'a' + 'A') : byte;
+}
+
+static int is_control(uint8_t byte) {
+    return byte == '\f' || byte == '\v';
 }
 
 /* A name, now and then all or one letter of it in capitals. */
@@ -313,7 +323,7 @@ static void closer(text *t) {
 typedef void maker(text *t);
 
 static maker *const constructs[] = {
-    tag, tag, tag, block_tag, raw_tag, comment_like, comment_like, instruction_like, cdata_like, declaration_like, word, word, word, fragment, fragment,
+    tag, tag, tag, block_tag, raw_tag, comment_like, instruction_like, cdata_like, declaration_like, word, word, word, fragment, fragment,
 };
 
 /* What a line begins with. */
@@ -339,6 +349,13 @@ static void change(text *t) {
             t->length++;
             t->bytes[at] = way == INSERT ? byte : t->bytes[at];
         }
+    }
+}
+
+/* The text without form feed and line tabulation. */
+static void leave_out_controls(text *t) {
+    for (size_t i = 0; i < t->length; i++) {
+        t->bytes[i] = is_control(t->bytes[i]) ? ' ' : t->bytes[i];
     }
 }
 
@@ -436,8 +453,8 @@ static int is_digit(uint8_t byte) {
 }
 
 /*
- * Whether a line may begin a construct that the library does not know: a block quote, fence, heading, underline of a heading, thematic break or list item. But for
- * the first two, a blank or line ending stands behind the run of equal bytes, or a `.` or `)` behind the digits.
+ * Whether a line may begin a construct that the library does not know: a block quote, fence, heading, underline of a heading, thematic break or list item. But
+ * for the first two, whitespace (libcmark takes any) stands behind the run of equal bytes, or a `.` or `)` behind the digits.
  */
 static int begins_other(const text *t, size_t index, size_t end) {
     size_t first = past_blanks(t, index, end);
@@ -450,7 +467,7 @@ static int begins_other(const text *t, size_t index, size_t end) {
     if (is_digit(byte)) {
         return next == '.' || next == ')';
     }
-    return byte == '>' || byte == '~' || (strchr("-+*_#=", byte) != NULL && (is_blank(next) || is_ending(next)));
+    return byte == '>' || byte == '~' || (strchr("-+*_#=", byte) != NULL && (is_blank(next) || is_ending(next) || is_control(next)));
 }
 
 /* Whether a line that begins a paragraph may be indented code, or a link's definition. */
@@ -509,10 +526,6 @@ static int is_letter(uint8_t byte) {
 
 static int is_capital(uint8_t byte) {
     return byte >= 'A' && byte <= 'Z';
-}
-
-static int is_control(uint8_t byte) {
-    return byte == '\f' || byte == '\v';
 }
 
 static int is_whitespace(uint8_t byte, unsigned by) {
@@ -1287,6 +1300,9 @@ static void make_sample(int kind, sample *s) {
     }
     if (once_in(SOMETIMES)) {
         change(t);
+    }
+    if (!once_in(SELDOM)) {
+        leave_out_controls(t);
     }
     choose_endings(t);
     if (kind == INLINE_TEXTS) {

@@ -109,7 +109,8 @@ static inline size_t below(size_t bound) {
 static const char *const fragments[] = {
     "title", "TextArea", "style", "xmp", "XMP", "iframe", "noembed", "NOFRAMES", "script", "plaintext",
     "<", "<", "<", "<", "<", "<", "</", "</", "</", "</", ">", ">", ">", ">", ">", "/>", "/", " ", " ", "\t", "\n", "\n", "\r\n", "\r", "\n\n",
-    "<!--", "-->", "<?", "?>", "<!A", "<![CDATA[", "]]>", "<div>", "<b ", "</script>", "<![", "]]]>", "<a b=c", "<a 1", "a", "Z", "9", "-", "=", "\"", "'",
+    "<!--", "-->", "<?", "?>", "<!A", "<![CDATA[", "]]>", "<div>", "<b ", "</script>", "<![", "]]]>", "<a b=c/d>",
+    "\n<a 1>\n", "\n<pre/>\n", "a", "Z", "9", "-", "=", "\"", "'",
 };
 
 enum { FRAGMENTS = sizeof fragments / sizeof *fragments, MOST_FRAGMENTS = 30, SHORT = 10 * MOST_FRAGMENTS };

@@ -452,8 +452,6 @@ static void partings(void) {
     /* T1. */
     CHECK(is_inline(foringamo_inline_scan(TEXT("<a b=c/d>"), 0, 0), 0, 0, 0, 0));
     CHECK(is_inline(foringamo_standard_inline_scan(TEXT("<a b=c/d>"), 0, 0), 0, 1, 0, 9));
-    CHECK(is_shown(foringamo_withhold(TEXT("a <a b=c/d>"), zeros, 1, out, ROOM), 0, 11, 0));
-    CHECK(is_shown(foringamo_standard_withhold(TEXT("a <a b=c/d>"), zeros, 1, out, ROOM), 0, 2, 1));
 
     /* T2: the carry is read and changed. */
     CHECK(is_inline(foringamo_inline_scan(TEXT("<![CDx"), 0, 0), 0, 0, 2, 0));
@@ -468,6 +466,38 @@ static void partings(void) {
         CHECK(is_inline(foringamo_standard_inline_scan(TEXT("<![CDATA[q]]>"), 0, carry), 0, 1, carry, 13));
         CHECK(is_inline(foringamo_standard_inline_scan(TEXT("<![ATA[q]]>"), 0, carry), 0, 0, carry, 0));
         CHECK(is_inline(foringamo_standard_inline_scan(TEXT("<![[q]]>"), 0, carry), 0, 0, carry, 0));
+    }
+}
+
+/* A bulletin, all flags 0, and what each reading shows of it. */
+typedef struct {
+    const char *text;
+    const char *rust;
+    const char *standard;
+} showing_row;
+
+/* README, The two readings. */
+static const showing_row showing_rows[] = {
+    {"a <b c=d/e>", "a <b c=d/e>", "a "},
+    {"<i 1>", "", "<i 1>"},
+    {"<pre/>\nx", "", "\nx"},
+    {"<i b=c/d>\nx", "<i b=c/d>\nx", ""},
+    {"<i b=c=d>", "", "<i b=c=d>"},
+    {"<![CDATA[]]]>\nx", "", "\nx"},
+    {"door <![CDx 9 <![CDATA[old 7]]> ok", "door <![CDx 9  ok", "door <![CDx 9  ok"},
+};
+
+static int shows(const reading *by, const char *text, const char *shown) {
+    const uint8_t *bulletin = (const uint8_t *)text;
+    fill();
+    foringamo_shown r = by->withhold(bulletin, strlen(text), zeros, foringamo_count_lines(bulletin, strlen(text)), out, ROOM);
+    return r.refusal == 0 && r.length == strlen(shown) && has((const uint8_t *)shown, r.length);
+}
+
+static void showings(void) {
+    for (size_t i = 0; i < sizeof showing_rows / sizeof *showing_rows; i++) {
+        CHECK(shows(&rust, showing_rows[i].text, showing_rows[i].rust));
+        CHECK(shows(&standard, showing_rows[i].text, showing_rows[i].standard));
     }
 }
 
@@ -517,7 +547,7 @@ static void readings_part(void) {
         CHECK(good);
     }
     for (int place = 0; place < PLACES; place++) {
-        CHECK(parted[place] >= 10);
+        CHECK(parted[place] >= 30);
     }
 }
 
@@ -538,6 +568,7 @@ int main(void) {
     withhold(&rust);
     withhold(&standard);
     partings();
+    showings();
     readings_part();
     return finish();
 }
