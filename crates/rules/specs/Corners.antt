@@ -9,7 +9,7 @@ use Rattle.lexical.specs.Text.{bytes, limit}
 use Rattle.lexical.specs.Name.{all, sameBytes}
 use Rattle.rules.specs.Reading.{crate, standard}
 use Rattle.rules.specs.Refusal.{refusal, tooLong, inlineRefusal, blockRefusal, bulletinRefusal}
-use Rattle.rules.specs.Scan.{foundInline, noInline, refusedInline, inlineScan, found, foundBlock, noBlock, refusedBlock, blockScan}
+use Rattle.rules.specs.Scan.{InlineAnswer, foundInline, noInline, refusedInline, inlineScan, found, BlockAnswer, foundBlock, noBlock, refusedBlock, blockScan}
 use Rattle.rules.specs.Withhold.{shown, Shown, shows, refusedShown, withhold, written}
 use Rattle.rules.specs.Output.{Wrote, wrote, refusedWrite}
 use Rattle.rules.specs.Filter.{filtered, filter}
@@ -157,8 +157,39 @@ filters =
     ∷ sameWrote (filter crate (bytes "a<xmp>") (3 ∷ []) 9) (wrote 9)
     ∷ []
 
-pub corners-hold : all (λ b. b) (texts ++ (blocks ++ (names ++ (closers ++ (refusals ++ (outputs ++ filters)))))) ≡ true
-unfolding computing texts blocks names closers refusals outputs filters
+-- 02, Ask 5: by the standard, where each of the eight changes makes the readings part
+abbrev pub standardBlock : List ℕ → ℕ → BlockAnswer → Bool
+standardBlock text flag a = sameBlock (blockScan standard text (flag ∷ []) 0) a
+
+abbrev pub standardInline : List ℕ → ℕ → InlineAnswer → Bool
+standardInline text k a = sameInline (inlineScan standard text 0 k) a
+
+unfoldable pub standards : List Bool
+standards =
+    -- F1 to F6; a raw name in a closing tag is of kind 7 here too
+    standardBlock (bytes "<![CDATA[]]]>") 0 (foundBlock (found 5 255 13 true 10))
+    ∷ standardBlock (bytes "<a 1b>") 0 noBlock
+    ∷ standardBlock (bytes "<pre/>") 0 noBlock
+    ∷ standardBlock (bytes "</pre>") 0 (foundBlock (found 7 255 6 false 6))
+    ∷ standardBlock (bytes "<a b=c/d>") 0 (foundBlock (found 7 255 9 false 9))
+    ∷ standardBlock (bytes "<a b=c=d>") 0 noBlock
+    ∷ standardBlock (bytes "<a>") 1 (foundBlock (found 7 255 3 false 3))
+    ∷ standardBlock (bytes "<a>") 2 noBlock
+    ∷ standardBlock (bytes "<a>") 3 noBlock
+    -- T1
+    ∷ standardInline (bytes "<a b=c/d>") 0 (foundInline 9 0)
+    -- T2: the carry is neither read nor changed, and refused above 5 all the same
+    ∷ standardInline (bytes "<![CDx") 0 (noInline 0)
+    ∷ standardInline (bytes "<![CDATA[q]]>") 2 (foundInline 13 2)
+    ∷ standardInline (bytes "<![ATA[q]]>") 2 (noInline 2)
+    ∷ standardInline (bytes "<![CDATA[q]]>") 6 (refusedInline 5 6)
+    -- withholding goes by this reading's own pieces
+    ∷ sameBytes (shown standard (bytes "a <b c=d/e>\n<pre/>\n<i 1>") (0 ∷ 0 ∷ 0 ∷ [])) (bytes "a \n\n<i 1>")
+    ∷ sameAnswer (withhold standard (bytes "a<b c=d/e>") (0 ∷ []) 1) (shows 1 1)
+    ∷ []
+
+pub corners-hold : all (λ b. b) (texts ++ (blocks ++ (names ++ (closers ++ (refusals ++ (outputs ++ (filters ++ standards))))))) ≡ true
+unfolding computing texts blocks names closers refusals outputs filters standards
 corners-hold = refl
 
 -- 1 comes before all others, from the first byte over the limit on

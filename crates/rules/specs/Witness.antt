@@ -151,7 +151,7 @@ pub each-listed : (c : Change) → all (λ d. sameBit (isListed (place c) d) (eq
 unfolding computing
 each-listed = eight (λ c. all (λ d. sameBit (isListed (place c) d) (eqb (clause c) (clause d))) changes ≡ true) refl refl refl refl refl refl refl refl
 
--- where only the closer differs, it is F1's; where nothing does, no change is listed
+-- where only the closer differs, F1 is listed
 pub closer-listed : isListed closerPlace F1 ≡ true
 unfolding computing
 closer-listed = refl

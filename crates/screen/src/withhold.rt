@@ -98,12 +98,7 @@ fn has_room(rules: Rules, bulletin: &[u8], flags: &[u8], room: usize) -> bool
 }
 
 // Shows a bulletin without its raw HTML, in any reading.
-pub(crate) fn withhold_by(
-    rules: Rules,
-    bulletin: &[u8],
-    flags: &[u8],
-    out: &mut [u8],
-) -> Withheld
+pub(crate) fn withhold_by(rules: Rules, bulletin: &[u8], flags: &[u8], out: &mut [u8]) -> Withheld
     ensures { λ r. ⌜ shownOf r ≡ withholdOf rules (now (bulletin .entry)) (now (flags .entry)) (length (now (out .entry))) ⌝ }
     ensures { λ r. ⌜ now (out .exit) ≡ written (withholdRefusal rules (now (bulletin .entry)) (now (flags .entry)) (length (now (out .entry)))) (shown rules (now (bulletin .entry)) (now (flags .entry))) (now (out .entry)) ⌝ }
 {
