@@ -1,7 +1,8 @@
 /*
  * One call again and again, for bench/count.sh and bench/place.sh: 'count INPUT' scans or withholds 16,000 bytes 200 times, and writes what the answers add up to;
  * 'count INPUT time' does so 100 times, and writes the least time of a call in microseconds. An input that begins with '=' is a unit, to be withheld again and again.
- * With 'filter:' in front of an input it is filtered. It ends with status 2 where there is no such input, and with 3 where the library has no filter.
+ * With 'filter:' in front of an input it is filtered, with 'standard:' withheld from by the standard. It ends with status 2 where there is no such input, and with 3
+ * where the library has no such function.
  */
 #include "foringamo.h"
 
@@ -9,8 +10,9 @@
 #include <string.h>
 #include <time.h>
 
-/* So that an archive from before the filter can be linked too, and counted beside today's. An archive is one object, and a filter in it is found. */
+/* So that an archive from before a function can be linked too, and counted beside today's. An archive is one object, and what is in it is found. */
 #pragma weak foringamo_filter
+#pragma weak foringamo_standard_withhold
 
 enum { LENGTH = 16000, FILTERED = LENGTH * 8 / 5, ROUNDS = 200, TIMES = 100, LINE = 73 };
 
@@ -40,6 +42,12 @@ static size_t finds_block(void)
 static size_t withholds(void)
 {
     foringamo_shown answer = foringamo_withhold(text, LENGTH, flags, lines, out, LENGTH);
+    return answer.refusal + answer.pieces + answer.length;
+}
+
+static size_t withholds_by_standard(void)
+{
+    foringamo_shown answer = foringamo_standard_withhold(text, LENGTH, flags, lines, out, LENGTH);
     return answer.refusal + answer.pieces + answer.length;
 }
 
@@ -117,15 +125,30 @@ static double least(size_t (*call)(void))
 
 int main(int count, char **words)
 {
-    const char *name = count > 1 ? words[1] : "", *filter = "filter:";
-    int filtered = !strncmp(name, filter, strlen(filter));
-    struct input input = named(filtered ? name + strlen(filter) : name);
+    const struct {
+        const char *front;
+        int there;
+        size_t (*call)(void);
+    } others[] = {
+        {"filter:", foringamo_filter != NULL, filters},
+        {"standard:", foringamo_standard_withhold != NULL, withholds_by_standard},
+    };
+    const char *name = count > 1 ? words[1] : "";
+    size_t (*other)(void) = NULL;
+    for (size_t i = 0; i < sizeof others / sizeof *others && !other; i++) {
+        size_t size = strlen(others[i].front);
+        if (strncmp(name, others[i].front, size))
+            continue;
+        if (!others[i].there)
+            return 3;
+        name += size;
+        other = others[i].call;
+    }
+    struct input input = named(name);
     if (!*input.unit)
         return 2;
-    if (filtered && !foringamo_filter)
-        return 3;
-    if (filtered)
-        input.call = filters;
+    if (other)
+        input.call = other;
     fill(&input);
     if (count == 3 && !strcmp(words[2], "time"))
         printf("%.2f\n", least(input.call));

@@ -146,6 +146,8 @@ withholds 'list, blank lines' '- <!--\n\n  x\n\n  -->' '- <!--\n\n  x\n\n  -->'
 withholds 'backslash' '\\<b>' '\\'
 withholds 'link destination' '[a](<b>)' '[a]()'
 withholds 'autolink' '<https://example.org>' '<https://example.org>'
+withholds 'autolink of an address' '<a@b.org>' '<a@b.org>'
+withholds 'autolink that is a declaration too' 'x <!a@b.org>' 'x '
 withholds 'no second reading' '<<b>b>' '<b>'
 withholds 'a broken CDATA opening' 'door <![CDx 9 <![CDATA[old 7]]> ok' 'door <![CDx 9  ok'
 
