@@ -1,6 +1,8 @@
 //! Every answer and every refusal, through the package.
 #![forbid(unsafe_code)]
 
+use std::fmt::Debug;
+
 use foringamo::{
     block_scan, block_trace, count_lines, filter, inline_scan, inline_trace, read_trace, standard_block_scan, standard_inline_scan, standard_withhold, withhold,
     Block, Inline, Kind, Name, Point, Record, Refusal, Shown, BLOCK_NAMES, INTERRUPT, LAZY, LIMIT, RAW_NAMES,
@@ -11,6 +13,22 @@ const FILL: u8 = 0xee;
 // A text one byte above the limit.
 fn long() -> Vec<u8> {
     vec![b'a'; LIMIT + 1]
+}
+
+// With each room up to one that is more than enough: the answer, with the output in front and the rest as it was, or a refusal where it does not fit.
+fn in_every_room<T: Copy + Debug + PartialEq>(most: usize, shown: &[u8], answer: T, call: impl Fn(&mut [u8]) -> Result<T, Refusal>) {
+    for room in 0..=most {
+        let mut out = vec![FILL; room];
+        let got = call(&mut out);
+        if room < shown.len() {
+            assert_eq!(got, Err(Refusal::NoRoom));
+            assert!(out.iter().all(|&b| b == FILL));
+        } else {
+            assert_eq!(got, Ok(answer));
+            assert_eq!(&out[..shown.len()], shown);
+            assert!(out[shown.len()..].iter().all(|&b| b == FILL));
+        }
+    }
 }
 
 #[test]
@@ -55,18 +73,7 @@ fn limit() {
 fn withheld() {
     let bulletin = b"door <!-- x -->9\n<div>\nold\n\nok";
     let shown = b"door 9\n\n\nok";
-    for room in 0..=bulletin.len() {
-        let mut out = vec![FILL; room];
-        let got = withhold(bulletin, &[0; 5], &mut out);
-        if room < shown.len() {
-            assert_eq!(got, Err(Refusal::NoRoom));
-            assert!(out.iter().all(|&b| b == FILL));
-        } else {
-            assert_eq!(got, Ok(Shown { length: shown.len(), pieces: 2 }));
-            assert_eq!(&out[..shown.len()], shown);
-            assert!(out[shown.len()..].iter().all(|&b| b == FILL));
-        }
-    }
+    in_every_room(bulletin.len(), shown, Shown { length: shown.len(), pieces: 2 }, |out| withhold(bulletin, &[0; 5], out));
     assert_eq!(withhold(b"", &[0], &mut []), Ok(Shown { length: 0, pieces: 0 }));
     assert_eq!(withhold(b"", &[], &mut []), Err(Refusal::WrongCount));
     assert_eq!(withhold(b"a", &[4], &mut []), Err(Refusal::WrongFlag));
@@ -86,18 +93,7 @@ fn filtered_of(bulletin: &[u8]) -> Vec<u8> {
 fn filtered() {
     let bulletin = b"<strong> <title> <style> <em>\n\n<blockquote>\n  <xmp> is disallowed.  <XMP> is also disallowed.\n</blockquote>\n";
     let shown = b"<strong> &lt;title> &lt;style> <em>\n\n<blockquote>\n  &lt;xmp> is disallowed.  &lt;XMP> is also disallowed.\n</blockquote>\n";
-    for room in 0..=bulletin.len() * 8 / 5 {
-        let mut out = vec![FILL; room];
-        let got = filter(bulletin, &[0; 6], &mut out);
-        if room < shown.len() {
-            assert_eq!(got, Err(Refusal::NoRoom));
-            assert!(out.iter().all(|&b| b == FILL));
-        } else {
-            assert_eq!(got, Ok(shown.len()));
-            assert_eq!(&out[..shown.len()], shown);
-            assert!(out[shown.len()..].iter().all(|&b| b == FILL));
-        }
-    }
+    in_every_room(bulletin.len() * 8 / 5, shown, shown.len(), |out| filter(bulletin, &[0; 6], out));
     assert_eq!(filter(b"", &[0], &mut []), Ok(0));
     assert_eq!(filter(b"", &[], &mut []), Err(Refusal::WrongCount));
     assert_eq!(filter(b"a", &[4], &mut []), Err(Refusal::WrongFlag));
@@ -247,21 +243,9 @@ fn standard_inlines() {
 fn standard_withheld() {
     let bulletin = b"a <b c=d/e>\n<pre/>\n<i 1>";
     let (rust, standard) = (b"a <b c=d/e>\n", b"a \n\n<i 1>");
-    for room in 0..=bulletin.len() {
-        let mut out = vec![FILL; room];
-        let got = standard_withhold(bulletin, &[0; 3], &mut out);
-        if room < standard.len() {
-            assert_eq!(got, Err(Refusal::NoRoom));
-            assert!(out.iter().all(|&b| b == FILL));
-        } else {
-            assert_eq!(got, Ok(Shown { length: standard.len(), pieces: 2 }));
-            assert_eq!(&out[..standard.len()], standard);
-            assert!(out[standard.len()..].iter().all(|&b| b == FILL));
-        }
-    }
-    let mut out = vec![FILL; bulletin.len()];
-    assert_eq!(withhold(bulletin, &[0; 3], &mut out), Ok(Shown { length: rust.len(), pieces: 1 }));
-    assert_eq!(&out[..rust.len()], rust);
+    in_every_room(bulletin.len(), standard, Shown { length: standard.len(), pieces: 2 }, |out| standard_withhold(bulletin, &[0; 3], out));
+    in_every_room(bulletin.len(), rust, Shown { length: rust.len(), pieces: 1 }, |out| withhold(bulletin, &[0; 3], out));
+    let mut out = [];
     assert_eq!(standard_withhold(&long(), &[0], &mut out), Err(Refusal::TooLong));
     assert_eq!(standard_withhold(b"a", &[0, 0], &mut out), Err(Refusal::WrongCount));
     assert_eq!(standard_withhold(b"a", &[4], &mut out), Err(Refusal::WrongFlag));
