@@ -22,39 +22,39 @@ use Rattle.rules.proofs.Past.{past-cases}
 abbrev grammar : Bool → Bool → Bool → Bool → Grammar
 grammar d s f m = record { digits = d; slashless = s; slashFirst = f; further = m }
 
--- the standard's, and of blocks that without F4
-abbrev gS : Bool → Grammar
-gS f = grammar false false f false
+-- the standard's: f, whether `/` may be a value's first byte where it may be none other; and of blocks that without F4
+abbrev standardTags : Bool → Grammar
+standardTags f = grammar false false f false
 
-abbrev g4 : Grammar
-g4 = blockTags (without F4)
+abbrev withoutF4 : Grammar
+withoutF4 = blockTags (without F4)
 
 -- with no `/` in a value: one without digits, one without further values
-abbrev gB : Bool → Bool → Grammar
-gB f m = grammar false true f m
+abbrev noDigits : Bool → Bool → Grammar
+noDigits f m = grammar false true f m
 
-abbrev gC : Bool → Bool → Grammar
-gC f d = grammar d true f false
+abbrev noFurther : Bool → Bool → Grammar
+noFurther f d = grammar d true f false
 
 -- ---- the bytes of an unquoted value
 -- one without `/`, and the standard's, which runs at least as far
-abbrev inFlow : ℕ → Bool
-inFlow b = not (isValueEnd true b)
+abbrev inSlashless : ℕ → Bool
+inSlashless b = not (isValueEnd true b)
 
 abbrev inStandard : ℕ → Bool
 inStandard b = not (isValueEnd false b)
 
-reaches : (x : ℕ) → inFlow x ≡ true → inStandard x ≡ true
+reaches : (x : ℕ) → inSlashless x ≡ true → inStandard x ≡ true
 reaches x h = split (eqb x (byte "/")) (λ e. rw (eqb-true x (byte "/") e)) (λ e. simp e (simp e at h))
 
 -- and farther only where it meets `/`
-same-stop : (x : ℕ) → eqb x (byte "/") ≡ false → inFlow x ≡ false → inStandard x ≡ false
+same-stop : (x : ℕ) → eqb x (byte "/") ≡ false → inSlashless x ≡ false → inStandard x ≡ false
 same-stop x e h = simp e (simp e at h)
 
-twice : (s : List ℕ) → past inStandard s ≡ past inStandard (past inFlow s)
+twice : (s : List ℕ) → past inStandard s ≡ past inStandard (past inSlashless s)
 unfolding past
 twice [] = refl
-twice (x ∷ xs) = split (inFlow x) (λ h. simp (h, reaches x h) (twice xs)) (λ h. simp h)
+twice (x ∷ xs) = split (inSlashless x) (λ h. simp (h, reaches x h) (twice xs)) (λ h. simp h)
 
 -- ---- the first byte of a name: what begins one without digits begins one
 start-grows : (d : Bool) (x : ℕ) → isNameStart false x ≡ true → isNameStart d x ≡ true
@@ -104,24 +104,24 @@ module _ (P : Left → Type 0) (never : P nothing → ⊥) where
     unquoted-grows : (v : List ℕ → Left) (t : List ℕ) → Yes less t → Yes (specification more v) t
     unquoted-grows v t h = simp (signless t h) (grows t h)
 
-    value-grows : (u v : List ℕ → Left) (s : List ℕ) → Yes (value (gS false) less u) s → Yes (value g4 more v) s
+    value-grows : (u v : List ℕ → Left) (s : List ℕ) → Yes (value (standardTags false) less u) s → Yes (value withoutF4 more v) s
     value-grows u v [] h = h
     value-grows u v (x ∷ xs) h =
         split (isQuote x) (λ q. simp q (quote-grows (past (λ b. not (eqb b x)) xs) (simp q at h)))
         (λ q. split (isValueExcluded x) (λ a. let u = simp q at a in simp (q, u) (simp (q, u) at h))
         (λ a. let u = simp q at a in simp (q, u) (unquoted-grows v _ (simp (q, u) at h))))
 
-    values-grow : (m : ℕ) (s : List ℕ) → Yes (values (gS false) less m) s → Yes (values g4 more m) s
+    values-grow : (m : ℕ) (s : List ℕ) → Yes (values (standardTags false) less m) s → Yes (values withoutF4 more m) s
     unfolding values
     values-grow zero s h = h
-    values-grow (suc m) s h = value-grows (values (gS false) less m) (values g4 more m) s h
+    values-grow (suc m) s h = value-grows (values (standardTags false) less m) (values withoutF4 more m) s h
 
     specification-grows : (u v : List ℕ → Left) (s : List ℕ) → ((t : List ℕ) → Yes u t → Yes v t) → Yes (specification less u) s → Yes (specification more v) s
     specification-grows u v s f h =
         split (begins (bytes "=") (past isWhitespace s))
         (λ e. simp e (f (past isWhitespace (drop 1 (past isWhitespace s))) (simp e at h))) (λ e. simp e (grows s (simp e at h)))
 
-  attributes-grow : (n : ℕ) (s : List ℕ) → Yes (attributes (gS false) n) s → Yes (attributes g4 n) s
+  attributes-grow : (n : ℕ) (s : List ℕ) → Yes (attributes (standardTags false) n) s → Yes (attributes withoutF4 n) s
   unfolding attributes
   attributes-grow zero s h = h
   attributes-grow (suc n) s h =
@@ -130,20 +130,20 @@ module _ (P : Left → Type 0) (never : P nothing → ⊥) where
       let a = and-left (isWhitespace (first s)) (isNameStart false (first (past isWhitespace s))) e in
       let b = start-grows true (first (past isWhitespace s)) (and-right (isWhitespace (first s)) (isNameStart false (first (past isWhitespace s))) e) in
       let t = drop 1 (past isWhitespace s) in
-      let less = attributes (gS false) n in
-      let more = attributes g4 n in
-      simp (a, b) (specification-grows less more (attributes-grow n) (sign (gS false) n) (values (gS false) less (length t)) (values g4 more (length t)) (past isAttributeNameByte t) (values-grow less more (attributes-grow n) (sign (gS false) n) (length t)) (simp e at h)))
-      (λ e. let k = simp e at h in simp (end-first g4 (past isWhitespace s) k, and-no) k)
+      let less = attributes (standardTags false) n in
+      let more = attributes withoutF4 n in
+      simp (a, b) (specification-grows less more (attributes-grow n) (sign (standardTags false) n) (values (standardTags false) less (length t)) (values withoutF4 more (length t)) (past isAttributeNameByte t) (values-grow less more (attributes-grow n) (sign (standardTags false) n) (length t)) (simp e at h)))
+      (λ e. let k = simp e at h in simp (end-first withoutF4 (past isWhitespace s) k, and-no) k)
 
-  open-on-grows : (s : List ℕ) → Yes (openTag (gS false)) s → Yes (openTag g4) s
+  tag-grows : (s : List ℕ) → Yes (openTag (standardTags false)) s → Yes (openTag withoutF4) s
   unfolding openTag
-  open-on-grows s h =
+  tag-grows s h =
       split (begins (bytes "<") s && isLetter (first (drop 1 s)))
       (λ e. simp e (attributes-grow (length s) (past isTagNameByte (drop 2 s)) (simp e at h))) (λ e. simp e (simp e at h))
 
   -- ---- a tag that is taken without digits and without further values is taken by the standard; f: `/` may be a value's first byte
   -- `/` behind an attribute is followed by `>`, so that a value which runs past it ends the same
-  slash : (f d : Bool) (n : ℕ) (xs : List ℕ) → Yes (attributes (gC f d) n) (byte "/" ∷ xs) → Yes (attributes (gS f) n) (past inStandard xs)
+  slash : (f d : Bool) (n : ℕ) (xs : List ℕ) → Yes (attributes (noFurther f d) n) (byte "/" ∷ xs) → Yes (attributes (standardTags f) n) (past inStandard xs)
   unfolding attributes tagEnd past
   slash f d zero xs h = h
   slash f d (suc n) [] h = h
@@ -171,10 +171,10 @@ module _ (P : Left → Type 0) (never : P nothing → ⊥) where
     at-stop x xs e h = simp e h
 
     -- at the end of an unquoted value
-    stop-falls : (s : List ℕ) → Yes b (past inFlow s) → Yes c (past inFlow s) → Yes more (past inStandard s)
+    stop-falls : (s : List ℕ) → Yes b (past inSlashless s) → Yes c (past inSlashless s) → Yes more (past inStandard s)
     stop-falls s =
         rw twice
-        (past-cases (λ t. Yes b t → Yes c t → Yes more (past inStandard t)) inFlow s end-falls
+        (past-cases (λ t. Yes b t → Yes c t → Yes more (past inStandard t)) inSlashless s end-falls
         (λ x xs e l g h. split (eqb x (byte "/")) (λ k. rw (eqb-true x (byte "/") k) (at-slash xs (rw (eqb-true x (byte "/") k) at h)))
         (λ k. at-stop x xs (same-stop x k e) (falls (x ∷ xs) g h))))
 
@@ -184,13 +184,13 @@ module _ (P : Left → Type 0) (never : P nothing → ⊥) where
     no-further false u t g h = g
 
     unquoted-falls : (f m d : Bool) (u : List ℕ → Left) (x : ℕ) (xs : List ℕ)
-        → P (choose m (λ _. specification b u (pastUnquoted (gB f m) x xs)) (λ _. b (pastUnquoted (gB f m) x xs))) → Yes c (pastUnquoted (gC f d) x xs)
-        → Yes more (pastUnquoted (gS f) x xs)
-    unquoted-falls true m d u x xs g h = stop-falls xs (no-further m u (past inFlow xs) g h) h
-    unquoted-falls false m d u x xs g h = stop-falls (x ∷ xs) (no-further m u (past inFlow (x ∷ xs)) g h) h
+        → P (choose m (λ _. specification b u (pastUnquoted (noDigits f m) x xs)) (λ _. b (pastUnquoted (noDigits f m) x xs))) → Yes c (pastUnquoted (noFurther f d) x xs)
+        → Yes more (pastUnquoted (standardTags f) x xs)
+    unquoted-falls true m d u x xs g h = stop-falls xs (no-further m u (past inSlashless xs) g h) h
+    unquoted-falls false m d u x xs g h = stop-falls (x ∷ xs) (no-further m u (past inSlashless (x ∷ xs)) g h) h
 
     module _ (f m d : Bool) where
-      value-falls : (u v w : List ℕ → Left) (s : List ℕ) → Yes (value (gB f m) b u) s → Yes (value (gC f d) c v) s → Yes (value (gS f) more w) s
+      value-falls : (u v w : List ℕ → Left) (s : List ℕ) → Yes (value (noDigits f m) b u) s → Yes (value (noFurther f d) c v) s → Yes (value (standardTags f) more w) s
       value-falls u v w [] g h = h
       value-falls u v w (x ∷ xs) g h =
           split (isQuote x) (λ q. simp q (quote-falls (past (λ b. not (eqb b x)) xs) (simp q at g) (simp q at h)))
@@ -199,10 +199,10 @@ module _ (P : Left → Type 0) (never : P nothing → ⊥) where
           let k = simp q at a in
           simp (q, k) (unquoted-falls f m d u x xs (other (isValueExcluded x) _ _ a (other (isQuote x) _ _ q g)) (other (isValueExcluded x) _ _ a (other (isQuote x) _ _ q h)))))
 
-      values-fall : (n : ℕ) (s : List ℕ) → Yes (values (gB f m) b n) s → Yes (values (gC f d) c n) s → Yes (values (gS f) more n) s
+      values-fall : (n : ℕ) (s : List ℕ) → Yes (values (noDigits f m) b n) s → Yes (values (noFurther f d) c n) s → Yes (values (standardTags f) more n) s
       unfolding values
       values-fall zero s g h = h
-      values-fall (suc n) s g h = value-falls (values (gB f m) b n) (values (gC f d) c n) (values (gS f) more n) s g h
+      values-fall (suc n) s g h = value-falls (values (noDigits f m) b n) (values (noFurther f d) c n) (values (standardTags f) more n) s g h
 
     specification-falls : (u v w : List ℕ → Left) (s : List ℕ) → ((t : List ℕ) → Yes u t → Yes v t → Yes w t) → Yes (specification b u) s → Yes (specification c v) s
         → Yes (specification more w) s
@@ -211,7 +211,7 @@ module _ (P : Left → Type 0) (never : P nothing → ⊥) where
         (λ e. simp e (f (past isWhitespace (drop 1 (past isWhitespace s))) (simp e at g) (simp e at h))) (λ e. simp e (falls s (simp e at g) (simp e at h)))
 
   module _ (f m d : Bool) where
-    attributes-fall : (n : ℕ) (s : List ℕ) → Yes (attributes (gB f m) n) s → Yes (attributes (gC f d) n) s → Yes (attributes (gS f) n) s
+    attributes-fall : (n : ℕ) (s : List ℕ) → Yes (attributes (noDigits f m) n) s → Yes (attributes (noFurther f d) n) s → Yes (attributes (standardTags f) n) s
     unfolding attributes
     attributes-fall zero s g h = h
     attributes-fall (suc n) s g h =
@@ -220,15 +220,15 @@ module _ (P : Left → Type 0) (never : P nothing → ⊥) where
         let a = and-left (isWhitespace (first s)) (isNameStart false (first (past isWhitespace s))) e in
         let k = start-grows d (first (past isWhitespace s)) (and-right (isWhitespace (first s)) (isNameStart false (first (past isWhitespace s))) e) in
         let t = drop 1 (past isWhitespace s) in
-        let b = attributes (gB f m) n in
-        let c = attributes (gC f d) n in
-        let more = attributes (gS f) n in
-        simp e (specification-falls b c more (attributes-fall n) (sign (gC f d) n) (slash f d n) (values (gB f m) b (length t)) (values (gC f d) c (length t)) (values (gS f) more (length t)) (past isAttributeNameByte t) (values-fall b c more (attributes-fall n) (sign (gC f d) n) (slash f d n) f m d (length t)) (simp e at g) (simp (a, k) at h)))
+        let b = attributes (noDigits f m) n in
+        let c = attributes (noFurther f d) n in
+        let more = attributes (standardTags f) n in
+        simp e (specification-falls b c more (attributes-fall n) (sign (noFurther f d) n) (slash f d n) (values (noDigits f m) b (length t)) (values (noFurther f d) c (length t)) (values (standardTags f) more (length t)) (past isAttributeNameByte t) (values-fall b c more (attributes-fall n) (sign (noFurther f d) n) (slash f d n) f m d (length t)) (simp e at g) (simp (a, k) at h)))
         (λ e. simp e (simp e at g))
 
-    open-on-falls : (s : List ℕ) → Yes (openTag (gB f m)) s → Yes (openTag (gC f d)) s → Yes (openTag (gS f)) s
+    tag-falls : (s : List ℕ) → Yes (openTag (noDigits f m)) s → Yes (openTag (noFurther f d)) s → Yes (openTag (standardTags f)) s
     unfolding openTag
-    open-on-falls s g h =
+    tag-falls s g h =
         split (begins (bytes "<") s && isLetter (first (drop 1 s)))
         (λ e. simp e (attributes-fall (length s) (past isTagNameByte (drop 2 s)) (simp e at g) (simp e at h))) (λ e. simp e (simp e at h))
 
@@ -240,10 +240,10 @@ unfilled : Fills nothing → ⊥
 unfilled h = clash true refl (sym h)
 
 pub open-grows : (s : List ℕ) → Fills (openTag (blockTags standard) s) → Fills (openTag (blockTags (without F4)) s)
-open-grows = open-on-grows Fills unfilled
+open-grows = tag-grows Fills unfilled
 
 pub open-falls : (s : List ℕ) → Fills (openTag (blockTags (without F2)) s) → Fills (openTag (blockTags (without F5)) s) → Fills (openTag (blockTags standard) s)
-open-falls = open-on-falls Fills unfilled false true true
+open-falls = tag-falls Fills unfilled false true true
 
 -- ---- inline: the same is left behind the tag
 module _ (t : List ℕ) where
@@ -254,4 +254,4 @@ module _ (t : List ℕ) where
   left-nothing h = clash true refl (sym (ap isThere h))
 
   pub open-on : (s : List ℕ) → openTag (inlineTags crate) s ≡ left t → openTag (inlineTags standard) s ≡ left t
-  open-on s h = open-on-falls Leaves left-nothing true false false s h h
+  open-on s h = tag-falls Leaves left-nothing true false false s h h
