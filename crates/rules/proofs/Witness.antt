@@ -9,14 +9,14 @@ use lib.ListN.{length}
 use borrow.Author.Tests.{eqb-true, eq-eqb, not-true}
 use Rattle.lexical.specs.Name.{all, sameBytes}
 use Rattle.lexical.proofs.Cases.{clash, and-left, and-right}
-use Rattle.rules.specs.Reading.{Change, crate, standard}
-use Rattle.rules.specs.Scan.{inlineScan, blockScan}
+use Rattle.rules.specs.Reading.{Change, crate, standard, without}
+use Rattle.rules.specs.Scan.{InlineAnswer, foundInline, noInline, refusedInline, inlineScan, BlockAnswer, foundBlock, noBlock, refusedBlock, blockScan}
 use Rattle.rules.specs.Partings.{Parts, Applies}
 use Rattle.rules.specs.Withhold.{count}
 use Rattle.rules.specs.Private.{isPrivate, Swap, in-line, in-block, SameRuns}
-use Rattle.rules.specs.Rows.{sameInline, sameBlock}
+use Rattle.rules.specs.Rows.{sameBit, sameInline, sameBlock}
 use Rattle.rules.specs.Computing.{computing}
-use Rattle.rules.specs.Witness.{eight, Place, inText, inBulletin, place, Row, body, whole, one, two, flags, consists, withheld, meets, swaps, swaps-meet}
+use Rattle.rules.specs.Witness.{eight, Place, inText, inBulletin, only, place, agree, each-applies, Row, body, whole, one, two, flags, consists, withheld, meets, swaps, swaps-meet}
 use Rattle.rules.specs.Counterexamples.{sameShown, sameCount, Excluded, excluded, bodies, brackets, needed, bytes-needed, bare, loose, unheld, enclosing-needed, counted, count-tells}
 use Rattle.rules.specs.declared.Rules.{Rules}
 
@@ -93,29 +93,50 @@ pub count-differs : Differ crate counted
 count-differs s = told-apart eqb _ _ (eq-eqb (count crate (one counted) (flags counted)) _ refl) (not-true (sameCount crate counted) (and-right (sameShown crate counted) (not (sameCount crate counted)) count-tells)) (s .same-count)
 
 -- ---- demand 2
--- a change applies to the scan at a place, and the two readings part there
+inline-self : (a : InlineAnswer) → sameInline a a ≡ true
+inline-self (foundInline s k) = rw (eq-eqb s s refl, eq-eqb k k refl) refl
+inline-self (noInline k) = eq-eqb k k refl
+inline-self (refusedInline n k) = rw (eq-eqb n n refl, eq-eqb k k refl) refl
+
+bit-self : (b : Bool) → sameBit b b ≡ true
+bit-self true = refl
+bit-self false = refl
+
+block-self : (a : BlockAnswer) → sameBlock a a ≡ true
+block-self (foundBlock b) =
+    rw (eq-eqb (b .kind) (b .kind) refl, eq-eqb (b .name) (b .name) refl, eq-eqb (b .stop) (b .stop) refl, bit-self (b .closed), eq-eqb (b .closer) (b .closer) refl) refl
+block-self noBlock = refl
+block-self (refusedBlock n) = eq-eqb n n refl
+
+inline-differ : (a b : InlineAnswer) → not (sameInline a b) ≡ true → ¬ (a ≡ b)
+inline-differ a b h = told-apart sameInline a b (inline-self a) (not-true (sameInline a b) h)
+
+block-differ : (a b : BlockAnswer) → not (sameBlock a b) ≡ true → ¬ (a ≡ b)
+block-differ a b h = told-apart sameBlock a b (block-self a) (not-true (sameBlock a b) h)
+
+-- a change applies to the scan at a place
 abbrev pub AppliesAt : Place → Change → Type 0
 AppliesAt (inText text k) c = Applies (λ ρ. inlineScan ρ text 0 k) c
 AppliesAt (inBulletin text flags) c = Applies (λ ρ. blockScan ρ text flags 0) c
 
-abbrev pub PartsAt : Place → Type 0
-PartsAt (inText text k) = Parts (λ ρ. inlineScan ρ text 0 k)
-PartsAt (inBulletin text flags) = Parts (λ ρ. blockScan ρ text flags 0)
+applies-at : (p : Place) (c : Change) → not (agree p crate (without c)) ≡ true → AppliesAt p c
+applies-at (inText text k) c h = inline-differ _ _ h
+applies-at (inBulletin text flags) c h = block-differ _ _ h
 
 -- each change applies at its place
 pub applies : (c : Change) → AppliesAt (place c) c
 unfolding computing
-applies =
-    eight (λ c. AppliesAt (place c) c)
-    (told-apart sameBlock _ _ refl refl) (told-apart sameBlock _ _ refl refl) (told-apart sameBlock _ _ refl refl)
-    (told-apart sameBlock _ _ refl refl) (told-apart sameBlock _ _ refl refl) (told-apart sameBlock _ _ refl refl)
-    (told-apart sameInline _ _ refl refl) (told-apart sameInline _ _ refl refl)
+applies c = applies-at (place c) c (eight (λ d. not (agree (place d) crate (without d)) ≡ true) refl refl refl refl refl refl refl refl c)
 
--- 02, Ask 5: and there the readings part
+-- 02, Ask 5: the two readings part at a place
+abbrev pub PartsAt : Place → Type 0
+PartsAt (inText text k) = Parts (λ ρ. inlineScan ρ text 0 k)
+PartsAt (inBulletin text flags) = Parts (λ ρ. blockScan ρ text flags 0)
+
+parts-at : (p : Place) → not (agree p crate standard) ≡ true → PartsAt p
+parts-at (inText text k) h = inline-differ _ _ h
+parts-at (inBulletin text flags) h = block-differ _ _ h
+
+-- and so they do at the place of each change
 pub parts : (c : Change) → PartsAt (place c)
-unfolding computing
-parts =
-    eight (λ c. PartsAt (place c))
-    (told-apart sameBlock _ _ refl refl) (told-apart sameBlock _ _ refl refl) (told-apart sameBlock _ _ refl refl)
-    (told-apart sameBlock _ _ refl refl) (told-apart sameBlock _ _ refl refl) (told-apart sameBlock _ _ refl refl)
-    (told-apart sameInline _ _ refl refl) (told-apart sameInline _ _ refl refl)
+parts c = parts-at (place c) (and-right (only c (λ d. not (agree (place c) crate (without d)))) (not (agree (place c) crate standard)) (each-applies c))
