@@ -1,5 +1,5 @@
--- Where none of the eight changes applies to a scan, its answer is that of the standard reading. Inline: at `<![` only T2 is read, elsewhere only T1. Blocks:
--- kinds 1 to 6 read only F1; whether a line opens kind 7 is a bit, and the readings without one change bound it from both sides.
+-- Where each of the eight changes is read. Inline: at `<![` only T2, elsewhere only T1. Blocks: kinds 1 to 6 read only F1, and of these kind 5 alone; whether a line
+-- opens kind 7 is a bit, and the readings without one change bound it from both sides.
 use mathlib.Core.Path.{_≡_, refl, sym, _∙_, ap}
 use mathlib.Core.Bool.{Bool, true, false, _&&_, _||_, not}
 use mathlib.Core.List.{List, [], _∷_}
@@ -10,15 +10,13 @@ use Rattle.lexical.specs.Text.{bytes, first}
 use Rattle.lexical.specs.Byte.{isLetter}
 use Rattle.lexical.specs.Name.{isRawName}
 use Rattle.lexical.proofs.Cases.{split, clash, and-left, and-right}
-use Rattle.rules.specs.Reading.{Change, F1, F2, F3, F4, F5, F6, T1, T2, crate, standard, without}
+use Rattle.rules.specs.Reading.{Change, F1, F2, F3, F4, F5, F6, T1, T2, standard, without}
 use Rattle.rules.specs.Search.{choose, begins, Left, left, nothing}
 use Rattle.rules.specs.Tag.{blockTags, openTag, closingTag}
 use Rattle.rules.specs.Inline.{carrying, keeping, htmlTag, rawHtml, readInline}
 use Rattle.rules.specs.Lines.{Line, isInterrupt}
 use Rattle.rules.specs.Block.{nameOf, startsRaw, startsBasic, fillsLine, startsComplete, mayStart, kindAt, indentation, kindOf, beforeCloser, closes, goesOn, extentOf, inLast}
-use Rattle.rules.specs.Refusal.{inlineRefusal, blockRefusal}
-use Rattle.rules.specs.Scan.{inlineAt, inlineScan, Found, BlockAnswer, foundBlock, noBlock, blockFound, blockOf, linesAt, blockAt, blockScan}
-use Rattle.rules.specs.Changes.{Unchanged, NoneApplies}
+use Rattle.rules.specs.Scan.{Found, BlockAnswer, foundBlock, noBlock, blockFound, blockOf}
 use Rattle.rules.specs.declared.Rules.{Rules}
 use Rattle.rules.proofs.Complete.{open-grows, open-falls}
 
@@ -45,16 +43,6 @@ read-without-T2 k s e = ap (keeping k) (cdata-alike (without T2) standard 0 s e)
 pub read-without-T1 : (k : ℕ) (s : List ℕ) → begins (bytes "<![") s ≡ false → readInline (without T1) k s ≡ readInline standard k s
 unfolding htmlTag
 read-without-T1 k s e = elsewhere (without T1) k s e ∙ sym (elsewhere standard k s e)
-
-inline-unchanged : (text : List ℕ) (i k : ℕ) → Unchanged (λ ρ. inlineAt ρ text i k)
-unfolding inlineAt
-inline-unchanged text i k h =
-    split (begins (bytes "<![") (drop i text)) (λ e. rw (← read-without-T2 k (drop i text) e) (h T2)) (λ e. rw (← read-without-T1 k (drop i text) e) (h T1))
-
--- a refusal is the same in every reading
-module _ {A : Type 0} (refuses : Bool) (refused : A) (at : Rules → A) (unchanged : Unchanged at) where
-  unless-refused : Unchanged (λ ρ. choose refuses (λ _. at ρ) (λ _. refused))
-  unless-refused h = split refuses (λ e. simp e (unchanged (λ c. simp e at (h c)))) (λ e. simp e)
 
 -- ---- kinds 1 to 6
 -- the closer reads only F1, and that of kind 5 alone
@@ -176,19 +164,7 @@ module _ (f : ℕ) (s : List ℕ) where
       let tag : opened (without F4) ≡ true = open-grows s (and-right (not raw) (opened standard) both) in
       simp (complete-of (without F4) (simp tag), may))
 
-  pub bits-unchanged : Unchanged (λ ρ. seventh ρ f s)
-  bits-unchanged h =
-      split (seventh crate f s) (λ e. e ∙ sym (falls (λ c. sym (h c) ∙ e)))
-      (λ e. split (seventh standard f s) (λ g. clash (seventh (without F4) f s) (grows g) (sym (h F4) ∙ e)) (λ g. e ∙ sym g))
-
 -- ---- blocks
--- an answer says which bit it was made from
-same-bit : (p q : Bool) (b : Found) → choose p (λ _. foundBlock b) (λ _. noBlock) ≡ choose q (λ _. foundBlock b) (λ _. noBlock) → p ≡ q
-same-bit true true b e = refl
-same-bit true false b e = cc
-same-bit false true b e = cc
-same-bit false false b e = refl
-
 module _ (i : ℕ) (l : Line) (ls : List Line) where
   -- the answer from the kind
   abbrev pub foundOf : Rules → ℕ → Found
@@ -213,24 +189,3 @@ module _ (i : ℕ) (l : Line) (ls : List Line) where
       ∙ ap (λ b. choose (eqb n 0) (λ _. noBlock) (λ _. foundBlock b))
       (found-alike (without F1) standard n (same-closer (without F1) standard refl n) i l ls)
       ∙ sym (by-kind standard n (e standard))
-
-  by-kinds : Kinds (λ ρ. kindOf ρ l) → Unchanged (λ ρ. blockOf ρ i (l ∷ ls))
-  by-kinds (fixed n e) h = h F1 ∙ block-without-F1 n e
-  by-kinds (bit f s e) h =
-      let same = bits-unchanged f s (λ c. same-bit (seventh crate f s) (seventh (without c) f s) (foundOf standard 7) (sym (by-bit crate (seventh crate f s) (e crate)) ∙ h c ∙ by-bit (without c) (seventh (without c) f s) (e (without c)))) in
-      by-bit crate (seventh crate f s) (e crate)
-      ∙ ap (λ b. choose b (λ _. foundBlock (foundOf standard 7)) (λ _. noBlock)) same
-      ∙ sym (by-bit standard (seventh standard f s) (e standard))
-
-block-unchanged : (i : ℕ) (ls : List Line) → Unchanged (λ ρ. blockOf ρ i ls)
-unfolding blockOf
-block-unchanged i [] h = refl
-block-unchanged i (l ∷ ls) h = by-kinds i l ls (kinds l) h
-
--- ---- the theorem
-pub none-applies : NoneApplies
-unfolding inlineScan blockScan blockAt
-none-applies = record {
-  inline = λ text i k. unless-refused (eqb (inlineRefusal text i k) 0) _ (λ ρ. inlineAt ρ text i k) (inline-unchanged text i k);
-  block = λ text flags i. unless-refused (eqb (blockRefusal text flags i) 0) _ (λ ρ. blockOf ρ i (linesAt text flags i)) (block-unchanged i (linesAt text flags i));
-}

@@ -1,5 +1,6 @@
 pub mod Complete
 pub mod Changes
+pub mod Same
 pub mod Partings
 pub mod NameLaws
 pub mod Carried

@@ -1,8 +1,9 @@
 -- Wherever the reading of the Rust and the standard's part, one of the eight applies, at the place listed for it: 02, Ask 5. Inline: at `<![` leaving T2 out gives the
 -- standard; elsewhere leaving T1 out does, a tag that is found with T1 is found without it, and where a tag is found nothing else begins. Blocks: which of kinds 1 to
--- 6 a line opens no change decides, and what is found reads none but kind 5, which reads F1; whether a line opens kind 7 is a bit.
+-- 6 a line opens no change decides, and what is found reads none but kind 5, which reads F1; whether a line opens kind 7 is a bit. So where none of the eight applies
+-- the readings do not part, which is demand 2's sentence on the changes.
 use mathlib.Core.Path.{_≡_, refl, sym, _∙_, ap}
-use mathlib.Core.Bool.{Bool, true, false, _&&_, _||_, not}
+use mathlib.Core.Bool.{Bool, true, false}
 use mathlib.Core.List.{List, [], _∷_}
 use Prim.Native.Nat.{ℕ, _-_}
 use lib.Dec.{eqb}
@@ -14,14 +15,17 @@ use Rattle.lexical.proofs.Cases.{split, clash, excluded}
 use Rattle.rules.specs.Reading.{Change, F1, F2, F3, F4, F5, F6, T1, T2, crate, standard, without}
 use Rattle.rules.specs.Search.{choose, begins, Left, left, nothing, orElse}
 use Rattle.rules.specs.Tag.{Grammar, inlineTags, openTag, closingTag}
-use Rattle.rules.specs.Inline.{comment, instruction, declaration, carrying, htmlTag, readInline}
+use Rattle.rules.specs.Inline.{comment, instruction, declaration, carrying, htmlTag}
 use Rattle.rules.specs.Lines.{Line}
 use Rattle.rules.specs.Block.{startsComplete, kindOf}
 use Rattle.rules.specs.Refusal.{inlineRefusal, blockRefusal}
 use Rattle.rules.specs.Scan.{InlineAnswer, foundInline, noInline, inlineAnswer, inlineAt, inlineScan, BlockAnswer, foundBlock, noBlock, blockOf, linesAt, blockAt, blockScan}
-use Rattle.rules.specs.Partings.{Parts, Applies, OneApplies, isFoundInline, isThere, onlyStandardTag, inlineListed, foundKind, onlyOneSeven, blockListed, PlacesComplete}
+use Rattle.rules.specs.Changes.{Unchanged, NoneApplies}
+use Rattle.rules.specs.Rows.{sameInline, sameBlock}
+use Rattle.rules.specs.Partings.{Parts, Applies, OneApplies, onlyStandardTag, inlineListed, foundKind, onlyOneSeven, blockListed, PlacesComplete}
 use Rattle.rules.specs.declared.Rules.{Rules}
 use Rattle.rules.proofs.Comment.{comment-is}
+use Rattle.rules.proofs.Same.{told-apart, inline-self, inline-same, block-self, block-same}
 use Rattle.rules.proofs.Complete.{left-nothing, open-on}
 use Rattle.rules.proofs.Changes.{elsewhere, read-without-T1, read-without-T2, seventh, falls, grows, Kinds, fixed, bit, kinds, other-closer, found-alike, foundOf, by-kind, by-bit, block-without-F1}
 
@@ -187,7 +191,7 @@ block-place i (l ∷ ls) parts = by-kinds (kinds l)
     by-kinds (fixed n e) = by-fixed i l ls n e parts
     by-kinds (bit f t e) = by-seventh i l ls f t e parts
 
--- ---- the theorem
+-- ---- the theorems
 -- readings do not part where a scan is refused
 module _ {A : Type 0} (refused : A) (at : Rules → A) (listed : A → A → Change → Bool) (place : Parts at → OneApplies at listed) where
   unless-refused : (taken : Bool) → Parts (λ ρ. choose taken (λ _. at ρ) (λ _. refused)) → OneApplies (λ ρ. choose taken (λ _. at ρ) (λ _. refused)) listed
@@ -199,4 +203,18 @@ unfolding inlineScan blockScan blockAt
 places-complete = record {
   inline = λ text i k. unless-refused _ (λ ρ. inlineAt ρ text i k) (inlineListed (drop i text)) (inline-place text i k) (eqb (inlineRefusal text i k) 0);
   block = λ text flags i. unless-refused _ (λ ρ. blockOf ρ i (linesAt text flags i)) blockListed (block-place i (linesAt text flags i)) (eqb (blockRefusal text flags i) 0);
+}
+
+-- answers that a test tells apart: where no change applies they are the same
+module _ {A : Type 0} (test : A → A → Bool) (self : (a : A) → test a a ≡ true) (same : (a b : A) → test a b ≡ true → a ≡ b)
+    (scan : Rules → A) (listed : A → A → Change → Bool) (place : Parts scan → OneApplies scan listed) where
+  unchanged : Unchanged scan
+  unchanged h =
+      split (test (scan crate) (scan standard)) (same (scan crate) (scan standard))
+      (λ e. let one = place (told-apart test (scan crate) (scan standard) (self (scan crate)) e) in absurd (one .applies (h (one .change))))
+
+pub none-applies : NoneApplies
+none-applies = record {
+  inline = λ text i k. unchanged sameInline inline-self inline-same (λ ρ. inlineScan ρ text i k) (inlineListed (drop i text)) (places-complete .inline text i k);
+  block = λ text flags i. unchanged sameBlock block-self block-same (λ ρ. blockScan ρ text flags i) blockListed (places-complete .block text flags i);
 }

@@ -1,6 +1,6 @@
 -- The tables of specs/Witness.antt and specs/Counterexamples.antt, said of the statements. A row's tests are the premises of demand 3 one by one, so that a row
 -- which meets them is a swap. A test that tells two answers or two texts apart passes a thing and itself, so what it tells apart is not equal.
-use mathlib.Core.Path.{_≡_, refl, sym, _∙_, ap}
+use mathlib.Core.Path.{_≡_, refl}
 use mathlib.Core.Bool.{Bool, true, false, _&&_, not}
 use mathlib.Core.List.{List, [], _∷_, _++_}
 use Prim.Native.Nat.{ℕ}
@@ -8,17 +8,18 @@ use lib.Dec.{eqb}
 use lib.ListN.{length}
 use borrow.Author.Tests.{eqb-true, eq-eqb, not-true}
 use Rattle.lexical.specs.Name.{all, sameBytes}
-use Rattle.lexical.proofs.Cases.{clash, and-left, and-right}
+use Rattle.lexical.proofs.Cases.{and-left, and-right}
 use Rattle.rules.specs.Reading.{Change, crate, standard, without}
-use Rattle.rules.specs.Scan.{InlineAnswer, foundInline, noInline, refusedInline, inlineScan, BlockAnswer, foundBlock, noBlock, refusedBlock, blockScan}
+use Rattle.rules.specs.Scan.{InlineAnswer, inlineScan, BlockAnswer, blockScan}
 use Rattle.rules.specs.Partings.{Parts, Applies}
 use Rattle.rules.specs.Withhold.{count}
 use Rattle.rules.specs.Private.{isPrivate, Swap, in-line, in-block, SameRuns}
-use Rattle.rules.specs.Rows.{sameBit, sameInline, sameBlock}
+use Rattle.rules.specs.Rows.{sameInline, sameBlock}
 use Rattle.rules.specs.Computing.{computing}
 use Rattle.rules.specs.Witness.{eight, Place, inText, inBulletin, only, place, agree, each-applies, Row, body, whole, one, two, flags, consists, withheld, meets, swaps, swaps-meet}
 use Rattle.rules.specs.Counterexamples.{sameShown, sameCount, Excluded, excluded, bodies, brackets, needed, bytes-needed, bare, loose, unheld, enclosing-needed, counted, count-tells}
 use Rattle.rules.specs.declared.Rules.{Rules}
+use Rattle.rules.proofs.Same.{told-apart, inline-self, block-self}
 
 -- every entry of a list has a property
 abbrev pub Each : {A : Type 0} → (A → Type 0) → List A → Type 0
@@ -56,9 +57,6 @@ pub standard-swaps : Each (SwapOf standard) swaps
 standard-swaps = each (SwapOf standard) (meets standard) (swap standard) swaps (and-right (all (meets crate) swaps) (all (meets standard) swaps) swaps-meet)
 
 -- ---- what a test tells apart is not equal
-told-apart : {A : Type 0} (test : A → A → Bool) (a b : A) → test a a ≡ true → test a b ≡ false → ¬ (a ≡ b)
-told-apart test a b self h e = clash (test a b) (sym (ap (test a) e) ∙ self) h
-
 same-self : (s : List ℕ) → sameBytes s s ≡ true
 unfolding sameBytes
 same-self [] = refl
@@ -93,21 +91,6 @@ pub count-differs : Differ crate counted
 count-differs s = told-apart eqb _ _ (eq-eqb (count crate (one counted) (flags counted)) _ refl) (not-true (sameCount crate counted) (and-right (sameShown crate counted) (not (sameCount crate counted)) count-tells)) (s .same-count)
 
 -- ---- demand 2
-inline-self : (a : InlineAnswer) → sameInline a a ≡ true
-inline-self (foundInline s k) = rw (eq-eqb s s refl, eq-eqb k k refl) refl
-inline-self (noInline k) = eq-eqb k k refl
-inline-self (refusedInline n k) = rw (eq-eqb n n refl, eq-eqb k k refl) refl
-
-bit-self : (b : Bool) → sameBit b b ≡ true
-bit-self true = refl
-bit-self false = refl
-
-block-self : (a : BlockAnswer) → sameBlock a a ≡ true
-block-self (foundBlock b) =
-    rw (eq-eqb (b .kind) (b .kind) refl, eq-eqb (b .name) (b .name) refl, eq-eqb (b .stop) (b .stop) refl, bit-self (b .closed), eq-eqb (b .closer) (b .closer) refl) refl
-block-self noBlock = refl
-block-self (refusedBlock n) = eq-eqb n n refl
-
 inline-differ : (a b : InlineAnswer) → not (sameInline a b) ≡ true → ¬ (a ≡ b)
 inline-differ a b h = told-apart sameInline a b (inline-self a) (not-true (sameInline a b) h)
 

@@ -33,6 +33,7 @@ isFoundInline (foundInline s k) = true
 isFoundInline (noInline k) = false
 isFoundInline (refusedInline n k) = false
 
+-- what was looked for is there
 abbrev pub isThere : Left → Bool
 isThere (left s) = true
 isThere nothing = false
@@ -63,6 +64,7 @@ foundKind (refusedBlock n) = 0
 abbrev pub onlyOneSeven : BlockAnswer → BlockAnswer → Bool
 onlyOneSeven a b = (eqb (foundKind a) 7 && eqb (foundKind b) 0) || (eqb (foundKind a) 0 && eqb (foundKind b) 7)
 
+-- both find kind 5
 abbrev pub bothFive : BlockAnswer → BlockAnswer → Bool
 bothFive a b = eqb (foundKind a) 5 && eqb (foundKind b) 5
 

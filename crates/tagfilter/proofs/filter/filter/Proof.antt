@@ -1,7 +1,3 @@
-use mathlib.Core.Path.{_∙_, ap}
-use lib.ListN.{length}
-use Rattle.rules.specs.Withhold.{written}
-use Rattle.rules.specs.Filter.{filtered, filter as filterOf, filterRefusal}
 use borrow.Author.Needs.{needs}
 use Rattle.tagfilter.proofs.filter.filter.Statement.{statement}
 use Rattle.tagfilter.proofs.filter.filter.Tie as tie
@@ -16,13 +12,7 @@ same-length : tie.Need-same-length
 same-length c = search needs
 
 returns : tie.Need-returns
-returns c =
-    let a = c .before .before .before .before .before .before .before .before .args in
-    let all = c .before .before .before .before .crate-rules .ensures in
-    let w = c .before .before .filter-by .ensures in (
-      w .0 ∙ ap (λ ρ. filterOf ρ (a .bulletin .now) (a .flags .now) (length (a .out .now))) all,
-      w .1 ∙ ap (λ ρ. written (filterRefusal ρ (a .bulletin .now) (a .flags .now) (length (a .out .now))) (filtered ρ (a .bulletin .now) (a .flags .now)) (a .out .now)) all,
-    )
+returns c = rw (c .before .before .before .before .crate-rules .ensures) at (c .before .before .filter-by .ensures)
 
 pub filter-spec : {M : Type 1} → statement M
 filter-spec = tie.close (tie.spec crate-rules-requires filter-by-requires same-length returns)
