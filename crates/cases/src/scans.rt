@@ -25,7 +25,7 @@ pub fn show_inline(answer: Inline) {
 }
 
 // What of a found block is shown, behind `found KIND`.
-#[derive(Drop)]
+#[derive(Clone, Copy)]
 enum Part {
     // `STOP yes` where a closer was met, `STOP no` where none was.
     Stop,

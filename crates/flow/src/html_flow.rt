@@ -192,7 +192,7 @@ pub(crate) fn complete_after(b: u8) -> State
 }
 
 // The kinds of blocks.
-#[derive(Drop)]
+#[derive(Clone, Copy)]
 pub enum Kind {
     Raw,
     Comment,
@@ -219,14 +219,14 @@ pub fn kind_number(kind: Kind) -> u8
 }
 
 // What a line opens, and the place of its name in the list of that kind.
-#[derive(Drop)]
+#[derive(Clone, Copy)]
 pub enum Opening {
     Shut,
     Opens { kind: Kind, name: u8 },
 }
 
 // Where a line of kinds 2 to 5 stands on the way to its closer.
-#[derive(Drop)]
+#[derive(Clone, Copy)]
 pub enum ContinuationName {
     Continuation,
     ContinuationCommentInside,

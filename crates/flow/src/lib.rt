@@ -1,4 +1,5 @@
 // The block scanner: html_flow.rs and what it leans on.
+#![tactic(auto)]
 pub mod html_flow;
 pub mod partial_non_lazy_continuation;
 pub mod partial_space_or_tab;

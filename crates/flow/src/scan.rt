@@ -28,7 +28,7 @@ const WRONG_INDEX: u8 = 4;
 
 // A block that was found: its kind, the place of its name in the list of that kind, its stop, whether a closer was met, and where the closer begins; where none
 // was met, that is the stop.
-#[derive(Drop)]
+#[derive(Clone, Copy)]
 pub struct Found {
     pub kind: Kind,
     pub name: u8,
@@ -38,7 +38,7 @@ pub struct Found {
 }
 
 // The answer of a block scan.
-#[derive(Drop)]
+#[derive(Clone, Copy)]
 pub enum Block {
     Found(Found),
     Missing,

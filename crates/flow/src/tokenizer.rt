@@ -5,7 +5,7 @@ ghost use Rattle.flow.specs.CompleteMachine.{step_of, accepts, run_of};
 use crate::html_flow;
 use rules::Rules;
 
-#[derive(Drop)]
+#[derive(Clone, Copy)]
 pub enum StateName {
     CompleteClosingTagAfter,
     CompleteAttributeNameBefore,
@@ -21,7 +21,7 @@ pub enum StateName {
 }
 
 // What a state does with a byte: take it and go on with a state, end the line there, or not take it.
-#[derive(Drop)]
+#[derive(Clone, Copy)]
 pub enum State {
     Next(StateName),
     Ok,

@@ -14,7 +14,7 @@ use trace::block::block_trace;
 
 // What a block scan gives.
 #[repr(C)]
-#[derive(Drop)]
+#[derive(Clone, Copy)]
 pub struct BlockResult {
     // 0: not refused.
     pub refusal: u8,

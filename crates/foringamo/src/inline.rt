@@ -13,7 +13,7 @@ use trace::tracer::inline_trace;
 
 // What an inline scan gives.
 #[repr(C)]
-#[derive(Drop)]
+#[derive(Clone, Copy)]
 pub struct InlineResult {
     // 0: not refused.
     pub refusal: u8,

@@ -7,7 +7,7 @@ use trace::reader::{Record, read_trace};
 
 // A record of a trace.
 #[repr(C)]
-#[derive(Drop)]
+#[derive(Clone, Copy)]
 pub struct RecordResult {
     // 0: not refused.
     pub refusal: u8,

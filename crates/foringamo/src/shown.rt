@@ -9,7 +9,7 @@ use screen::withhold::{Withheld, standard_withhold, withhold};
 
 // What withholding gives.
 #[repr(C)]
-#[derive(Drop)]
+#[derive(Clone, Copy)]
 pub struct ShownResult {
     // 0: not refused.
     pub refusal: u8,

@@ -7,7 +7,7 @@ use rules::Output;
 
 // How much was written, and the refusal of it.
 #[repr(C)]
-#[derive(Drop)]
+#[derive(Clone, Copy)]
 pub struct WrittenResult {
     // 0: not refused.
     pub refusal: u8,

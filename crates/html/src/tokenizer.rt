@@ -8,7 +8,7 @@ use crate::html_text;
 use lexical::line::mark_or_line_end;
 use rules::Rules;
 
-#[derive(Drop)]
+#[derive(Clone, Copy)]
 pub enum StateName {
     Start,
     Open,
@@ -40,7 +40,7 @@ pub enum StateName {
 }
 
 // What a state does with a byte: take it and go on with a state and a size, take it as the last, or not take it.
-#[derive(Drop)]
+#[derive(Clone, Copy)]
 pub enum State {
     Next(StateName, u8),
     Ok,
@@ -48,7 +48,7 @@ pub enum State {
 }
 
 // The answer of an inline scan.
-#[derive(Drop)]
+#[derive(Clone, Copy)]
 pub enum Inline {
     Found { stop: usize, carry: u8 },
     Missing { carry: u8 },

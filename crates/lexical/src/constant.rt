@@ -99,7 +99,7 @@ fn place_of(name: &[u8], table: &[u8], offsets: &[u16], first: u8) -> u8
 }
 
 // Places of a list, from one up to another.
-#[derive(Drop)]
+#[derive(Clone, Copy)]
 struct Places {
     from: u8,
     to: u8,

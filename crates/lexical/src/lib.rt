@@ -1,4 +1,6 @@
 // The lower crate: byte classes, names, points and lines, and copying bytes.
+#![tactic(auto)]
+
 pub mod byte;
 pub mod constant;
 pub mod copy;

@@ -9,7 +9,7 @@ use crate::line::ends_line;
 use std::num::wrapping_add_usize;
 
 // How to handle a byte.
-#[derive(Drop)]
+#[derive(Clone, Copy)]
 pub enum ByteAction {
     // The last reading of a byte.
     Normal(u8),

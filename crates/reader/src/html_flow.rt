@@ -10,7 +10,7 @@ use flow::html_flow::{ContinuationName, Kind, continuation_step, is_close};
 use rules::Rules;
 
 // Where a line of a block stands on the way to its closer.
-#[derive(Drop)]
+#[derive(Clone, Copy)]
 pub struct Line {
     pub kind: Kind,
     pub name: ContinuationName,

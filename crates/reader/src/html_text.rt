@@ -10,7 +10,7 @@ use html::tokenizer::{Inline, State, StateName};
 use rules::Rules;
 
 // Whether a scan goes on, took its last byte, or met a byte that it does not take.
-#[derive(Drop)]
+#[derive(Clone, Copy)]
 pub enum Status {
     Going,
     Ok,
@@ -18,7 +18,7 @@ pub enum Status {
 }
 
 // The state of a scan.
-#[derive(Drop)]
+#[derive(Clone, Copy)]
 pub struct Scanner {
     pub state: StateName,
     pub size: u8,

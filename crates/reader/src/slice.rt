@@ -8,7 +8,7 @@ ghost use Rattle.reader.specs.Moved.{movedOf, turnedOf, turnedAt};
 
 use html::tokenizer::Inline;
 
-#[derive(Drop)]
+#[derive(Clone, Copy)]
 pub struct Reader<'a> {
     pub text: &'a [u8],
     pub index: usize,
@@ -80,7 +80,7 @@ pub fn past<'a>(reader: Reader<'a>, answer: Inline) -> Reader<'a>
 }
 
 // What the scan at an index finds, where a reader that moves on then stands, and the byte there.
-#[derive(Drop)]
+#[derive(Clone, Copy)]
 pub struct Turn {
     pub answer: Inline,
     pub index: usize,

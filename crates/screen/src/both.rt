@@ -9,7 +9,7 @@ use crate::withhold::{Withheld, withhold_by};
 use rules::{Rules, crate_rules, standard_rules};
 
 // The answers of two runs.
-#[derive(Drop)]
+#[derive(Clone, Copy)]
 pub struct Both {
     pub one: Withheld,
     pub two: Withheld,

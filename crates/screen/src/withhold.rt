@@ -11,7 +11,7 @@ use rules::{NO_ROOM, Rules, crate_rules, standard_rules};
 use walk::pieces::{Next, at_line, next_piece};
 
 // The shown length and the number of pieces withheld, or a refusal.
-#[derive(Drop)]
+#[derive(Clone, Copy)]
 pub enum Withheld {
     Shown { length: usize, pieces: usize },
     Refused { refusal: u8 },

@@ -20,7 +20,7 @@ pub(crate) const HTML_TEXT_DATA: u8 = 9;
 const SPACE_OR_TAB: u8 = 11;
 
 // Where the next record is written, and the point of the last event.
-#[derive(Drop)]
+#[derive(Clone, Copy)]
 pub(crate) struct Pen {
     pub(crate) point: Point,
     pub(crate) at: usize,

@@ -17,7 +17,7 @@ const WRONG_KIND: u8 = 8;
 const CUT_OFF: u8 = 9;
 
 // A record of a trace, or the refusal of it.
-#[derive(Drop)]
+#[derive(Clone, Copy)]
 pub enum Record {
     Event {
         kind: u8,

@@ -34,6 +34,7 @@
 // withholding (`W`); then each of the eight places where the readings part (also by `c`), `<a>` with flags 0 to 3, `<![` and what begins so with carries 0 to 6, and
 // the refusals. The answers are those of a model of 4.6 and 6.6 of CommonMark 0.31.2 that was made for them, of regular expressions and 01's flags and stops; of
 // the first 726 they are the answers above but in 36, where one of the eight applies.
+#![tactic(auto)]
 fn main() {
     cases::run::all();
 }

@@ -9,7 +9,7 @@ use lexical::byte::is_letter;
 use lexical::constant::{HTML_CDATA_SIZE, cdata_letters};
 
 // What an opening is, as far as closers go.
-#[derive(Drop)]
+#[derive(Clone, Copy)]
 pub(crate) enum Form {
     Comment,
     Instruction,
@@ -19,7 +19,7 @@ pub(crate) enum Form {
 }
 
 // For each form whether a closer may lie ahead.
-#[derive(Drop)]
+#[derive(Clone, Copy)]
 pub struct Closers {
     comment: bool,
     instruction: bool,

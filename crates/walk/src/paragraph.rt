@@ -13,21 +13,21 @@ use lexical::line::{is_blank, line_end, next_line};
 use rules::Rules;
 
 // Where a paragraph ends, and the number of the line behind it.
-#[derive(Drop)]
+#[derive(Clone, Copy)]
 pub(crate) struct End {
     pub stop: usize,
     pub line: usize,
 }
 
 // What an attempt at `<` finds: a piece, or none, with what is then known of the closers ahead.
-#[derive(Drop)]
+#[derive(Clone, Copy)]
 pub(crate) enum Attempted {
     Found { stop: usize },
     Missing { closers: Closers },
 }
 
 // The next piece of a paragraph, with what is known of the closers behind it; or none.
-#[derive(Drop)]
+#[derive(Clone, Copy)]
 pub(crate) enum Inlined {
     Piece {
         start: usize,

@@ -14,7 +14,7 @@ use rules::Rules;
 
 // A place between pieces: an index of a paragraph that ends at stop, and behind that the line that begins at next, with its number. Outside paragraphs nothing
 // lies between index and stop. Only this file makes one.
-#[derive(Drop)]
+#[derive(Clone, Copy)]
 pub struct Cursor {
     index: usize,
     stop: usize,
@@ -24,7 +24,7 @@ pub struct Cursor {
 }
 
 // The next piece, whether it is a block, and the place behind it; or none.
-#[derive(Drop)]
+#[derive(Clone, Copy)]
 pub enum Next {
     Piece {
         start: usize,
@@ -36,7 +36,7 @@ pub enum Next {
 }
 
 // What a line outside blocks gives: the next piece, whether it is a block, and the place behind it; or none, and the place to go on from.
-#[derive(Drop)]
+#[derive(Clone, Copy)]
 enum Turn {
     Piece {
         start: usize,

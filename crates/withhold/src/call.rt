@@ -7,7 +7,7 @@ use libc::EINTR;
 // How many calls of one loop a signal may interrupt. One more counts as failed: a loop has to end.
 pub(crate) const PATIENCE: usize = 1000000;
 
-#[derive(Drop)]
+#[derive(Clone, Copy)]
 pub(crate) enum Told {
     // So many bytes are moved, and the call is made again for the rest. 0: a signal interrupted it, and patience is one less.
     Again { count: usize, patience: usize },

@@ -8,7 +8,7 @@ use libc::read;
 // How many bytes one call reads at most: what io's buffer holds.
 const CHUNK: usize = 4096;
 
-#[derive(Drop)]
+#[derive(Clone, Copy)]
 pub(crate) enum Input {
     Read { length: usize },
     Failed,

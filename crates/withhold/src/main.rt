@@ -1,5 +1,6 @@
 // The program. It withholds raw HTML from the bulletin on standard input, all of whose flags are 0, and writes what is shown to standard output. On a refusal it
 // writes only `refused N` and LF, to standard error: 01, What is read and given. Where it cannot read, or cannot write, it says so there, in one line.
+#![tactic(auto)]
 mod call;
 mod input;
 mod output;

@@ -1,0 +1,10 @@
+use Rattle.std.proofs.Common.{◌≡◌, ◌-◌, length}
+use Rattle.lexical.specs.Byte.{isTagNameByte}
+use Rattle.lexical.proofs.Run.{runEnd}
+use Rattle.lexical.proofs.byte.name_end.Given as goal
+
+abbrev pub invariant-loop-i : goal.invariant-loop-i
+invariant-loop-i l = runEnd isTagNameByte l.bytes l.i ≡ runEnd isTagNameByte l.bytes l.index
+
+abbrev pub decreases-loop-i : goal.decreases-loop-i
+decreases-loop-i l = length l.bytes - l.i
