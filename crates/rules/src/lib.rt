@@ -1,5 +1,6 @@
 // What the code shares with the definitions, which are in specs/.
 #![tactic(auto)]
+
 ghost use Rattle.std.specs.Prelude.{◌≡◌};
 ghost use Rattle.rules.specs.Reading.{crate as ofCrate, standard};
 
