@@ -1,0 +1,13 @@
+use mathlib.Core.Path.{◌≡◌}
+use Prim.Native.Nat.{◌-◌}
+use lib.ListN.{length}
+use Rattle.flow.specs.Answer.{kindNumber}
+use Rattle.flow.specs.BlockMachine.{continuationStartOf}
+use borrow.Author.Rules.{rules}
+use Rattle.flow.proofs.html_flow.continuation_start.Given as goal
+
+abbrev pub invariant-loop-stop : goal.invariant-loop-stop
+invariant-loop-stop l = continuationStartOf l.rules (kindNumber l.kind) l.name l.bulletin l.flags l.stop l.number ≡ continuationStartOf l.rules (kindNumber l.kind) l.name l.bulletin l.flags l.index l.line
+
+abbrev pub decreases-loop-stop : goal.decreases-loop-stop
+decreases-loop-stop l = length l.bulletin - l.stop
