@@ -14,13 +14,13 @@ use Rattle.lexical.specs.Name.{all}
 use Rattle.lexical.proofs.Cases.{split}
 use Rattle.lexical.proofs.Suffix.{suffix-in, suffix-out, suffix-next}
 use Rattle.lexical.proofs.Ending.{ending-out}
-use Rattle.rules.specs.Lines.{Line, line, flagged, lines_of}
-use Rattle.rules.specs.Block.{endsBefore, beforeCloser, kind_of, place_of, extentOf}
-use Rattle.rules.specs.Scan.{found, BlockAnswer, foundBlock, no_block, blockFound, block_of}
+use Rattle.rules.specs.Lines.{Line, line, flagged, linesOf}
+use Rattle.rules.specs.Block.{endsBefore, beforeCloser, kindOf, placeOf, extentOf}
+use Rattle.rules.specs.Scan.{found, BlockAnswer, foundBlock, noBlock, blockFound, blockOf}
 use Rattle.rules.specs.declared.Rules.{Rules}
 use Rattle.rules.proofs.Cut.{behind, behind-none, content-length, lead-length, to-within, lineFrom, lineTo}
 use Rattle.rules.proofs.LineLaws.{contentFrom, first-line, next-lines}
-use Rattle.rules.proofs.BlockLaws.{goingOn, closes_at, closes-not, none_left, ended, closed-here, one_on, first-closed, first_goes}
+use Rattle.rules.proofs.BlockLaws.{goingOn, closes-at, closes-not, none-left, ended, closed-here, one-on, first-closed, first-goes}
 use Rattle.flow.specs.Answer.{kindNumber}
 use Rattle.flow.specs.declared.html_flow.Kind.{Kind}
 use Rattle.flow.specs.declared.html_flow.Kind.TheVariants.{Raw, Comment, Instruction, Declaration, Cdata, Basic, Complete}
@@ -34,9 +34,9 @@ next-flags s n m e =
 
 -- all flags from an index on
 module _ (f : ℕ → Bool) (s : List ℕ) (i : ℕ) where
-  pub all_in : (t : Bool) → i < length s → f (get_or s i 0) ≡ t → all f (drop i s) ≡ (t && all f (drop (i + 1) s))
+  pub all-in : (t : Bool) → i < length s → f (get_or s i 0) ≡ t → all f (drop i s) ≡ (t && all f (drop (i + 1) s))
   unfolding all
-  all_in t h e = rw (suffix-in s i h, e)
+  all-in t h e = rw (suffix-in s i h, e)
 
   pub all-out : length s ≤ i → all f (drop i s) ≡ true
   unfolding all
@@ -44,9 +44,9 @@ module _ (f : ℕ → Bool) (s : List ℕ) (i : ℕ) where
 
 -- ---- the next line of an open block, at an index of a text
 module _ (ρ : Rules) (k name : ℕ) (s flags : List ℕ) (i n : ℕ) where
-  pub no_line : lineEnding (drop i s) ≡ 0 → continuationStartOf ρ k name s flags i n ≡ foundBlock (found k name i false i)
+  pub no-line : lineEnding (drop i s) ≡ 0 → continuationStartOf ρ k name s flags i n ≡ foundBlock (found k name i false i)
   unfolding continuationStartOf flagged
-  no_line e = rw (behind-none s i e) (ap foundBlock (none_left ρ k name i))
+  no-line e = rw (behind-none s i e) (ap foundBlock (none-left ρ k name i))
 
   -- the next line as the code reads it: where it begins, its flag and its content
   module _ (from f : ℕ) (content : List ℕ) (a : from ≡ lineFrom s i) (d : content ≡ contentFrom s from) (g : f ≡ get_or (drop n flags) 0 0) (h : from ≡ i → ⊥) where
@@ -65,18 +65,18 @@ module _ (ρ : Rules) (k name : ℕ) (s flags : List ℕ) (i n : ℕ) where
     content-is : content ≡ contentFrom s (lineFrom s i)
     content-is = d ∙ ap (contentFrom s) a
 
-    pub to_is : to ≡ lineTo s i
-    to_is = let m : length content ≡ length (contentFrom s (lineFrom s i)) = ap length content-is in omega (arith, m, a, content-length (drop (lineFrom s i) s))
+    pub to-is : to ≡ lineTo s i
+    to-is = let m : length content ≡ length (contentFrom s (lineFrom s i)) = ap length content-is in omega (arith, m, a, content-length (drop (lineFrom s i) s))
 
     pub next-line : flagged (drop n flags) (behind (drop i s)) ≡ next ∷ rest
     next-line =
         next-lines s flags i n (λ e. h (omega (arith, a, e)))
         ∙ ap (λ t. line t lead (contentFrom s (lineFrom s i)) ∷ flagged (drop 1 (drop n flags)) (behind (drop (lineTo s i) s))) (sym g)
         ∙ ap (λ t. line f lead t ∷ flagged (drop 1 (drop n flags)) (behind (drop (lineTo s i) s))) (sym content-is)
-        ∙ ap (λ t. next ∷ flagged (drop 1 (drop n flags)) (behind (drop t s))) (sym to_is)
+        ∙ ap (λ t. next ∷ flagged (drop 1 (drop n flags)) (behind (drop t s))) (sym to-is)
 
-    from_is : i + length lead ≡ from
-    from_is = omega (arith, a, lead-length s i)
+    from-is : i + length lead ≡ from
+    from-is = omega (arith, a, lead-length s i)
 
     goes : continuationStartOf ρ k name s flags i n ≡ foundBlock (goingOn ρ k name i (next ∷ rest))
     unfolding continuationStartOf
@@ -89,21 +89,21 @@ module _ (ρ : Rules) (k name : ℕ) (s flags : List ℕ) (i n : ℕ) where
     module _ (e : endsBefore k (line f [] content) ≡ false) (at : ℕ) (b : at ≡ beforeCloser ρ k content) where
       pub line-closes : at < length content → continuationStartOf ρ k name s flags i n ≡ foundBlock (found k name to true (from + at))
       line-closes c =
-          goes ∙ ap foundBlock (closed-here ρ k name i next rest e (closes_at ρ k content at b c))
-          ∙ ap (λ t. foundBlock (found k name (t + length content) true (t + beforeCloser ρ k content))) from_is ∙ ap (λ t. foundBlock (found k name to true (from + t))) (sym b)
+          goes ∙ ap foundBlock (closed-here ρ k name i next rest e (closes-at ρ k content at b c))
+          ∙ ap (λ t. foundBlock (found k name (t + length content) true (t + beforeCloser ρ k content))) from-is ∙ ap (λ t. foundBlock (found k name to true (from + t))) (sym b)
 
-      pub line_on : length content ≤ at → (m : ℕ) → drop m flags ≡ drop 1 (drop n flags) → continuationStartOf ρ k name s flags i n ≡ continuationStartOf ρ k name s flags to m
+      pub line-on : length content ≤ at → (m : ℕ) → drop m flags ≡ drop 1 (drop n flags) → continuationStartOf ρ k name s flags i n ≡ continuationStartOf ρ k name s flags to m
       unfolding continuationStartOf
-      line_on c m r =
-          goes ∙ ap foundBlock (one_on ρ k name i next rest e (closes-not ρ k content at b c))
-          ∙ ap (λ t. foundBlock (goingOn ρ k name (t + length content) rest)) from_is ∙ ap (λ t. foundBlock (goingOn ρ k name to (flagged t (behind (drop to s))))) (sym r)
+      line-on c m r =
+          goes ∙ ap foundBlock (one-on ρ k name i next rest e (closes-not ρ k content at b c))
+          ∙ ap (λ t. foundBlock (goingOn ρ k name (t + length content) rest)) from-is ∙ ap (λ t. foundBlock (goingOn ρ k name to (flagged t (behind (drop to s))))) (sym r)
 
   -- the text ends here, or no line ending stands here
   pub text-over : length s ≤ i → continuationStartOf ρ k name s flags i n ≡ foundBlock (found k name i false i)
-  text-over h = no_line (ending-out s i h)
+  text-over h = no-line (ending-out s i h)
 
-  pub same_from : (from : ℕ) → from ≡ lineFrom s i → from ≡ i → continuationStartOf ρ k name s flags i n ≡ foundBlock (found k name i false i)
-  same_from from a e = no_line (omega (arith, a, e))
+  pub same-from : (from : ℕ) → from ≡ lineFrom s i → from ≡ i → continuationStartOf ρ k name s flags i n ≡ foundBlock (found k name i false i)
+  same-from from a e = no-line (omega (arith, a, e))
 
 -- the next line ends within the text
 pub next-within : (s : List ℕ) (i from : ℕ) (content : List ℕ) → i < length s → from ≡ lineFrom s i → content ≡ contentFrom s from → from + length content ≤ length s
@@ -127,13 +127,13 @@ module _ (ρ : Rules) (s flags : List ℕ) (i n : ℕ) (to f : ℕ) (content : L
   others = flagged (drop 1 (drop n flags)) (behind (drop to s))
 
   abbrev pub blockAnswerAt : BlockAnswer
-  blockAnswerAt = block_of ρ i (lines_of (drop n flags) (drop i s))
+  blockAnswerAt = blockOf ρ i (linesOf (drop n flags) (drop i s))
 
   first-content : content ≡ contentFrom s i
   first-content = content-of s i to content b d
 
-  pub all_lines : lines_of (drop n flags) (drop i s) ≡ firstLine ∷ others
-  all_lines =
+  pub all-lines : linesOf (drop n flags) (drop i s) ≡ firstLine ∷ others
+  all-lines =
       first-line s flags i n
       ∙ ap (λ t. line t [] (contentFrom s i) ∷ flagged (drop 1 (drop n flags)) (behind (drop (i + lineLength (drop i s)) s))) (sym g)
       ∙ ap (λ t. line f [] t ∷ flagged (drop 1 (drop n flags)) (behind (drop (i + lineLength (drop i s)) s))) (sym first-content)
@@ -142,27 +142,27 @@ module _ (ρ : Rules) (s flags : List ℕ) (i n : ℕ) (to f : ℕ) (content : L
   pub stopped : i + length content ≡ to
   stopped = let m : length content ≡ length (contentFrom s i) = ap length first-content in omega (arith, m, b, content-length (drop i s))
 
-  pub no-block : kind_of ρ (line f [] content) ≡ 0 → blockAnswerAt ≡ no_block
-  unfolding block_of
-  no-block e = ap (block_of ρ i) all_lines ∙ rw e refl
+  pub no-block : kindOf ρ (line f [] content) ≡ 0 → blockAnswerAt ≡ noBlock
+  unfolding blockOf
+  no-block e = ap (blockOf ρ i) all-lines ∙ rw e refl
 
-  module _ (k name : ℕ) (e : kind_of ρ (line f [] content) ≡ k) (w : name ≡ place_of k (line f [] content)) (z : eqb k 0 ≡ false) where
+  module _ (k name : ℕ) (e : kindOf ρ (line f [] content) ≡ k) (w : name ≡ placeOf k (line f [] content)) (z : eqb k 0 ≡ false) where
     opened : blockAnswerAt ≡ foundBlock (blockFound ρ k i firstLine others (extentOf ρ k firstLine others))
-    unfolding block_of
-    opened = ap (block_of ρ i) all_lines ∙ rw (e, z)
+    unfolding blockOf
+    opened = ap (blockOf ρ i) all-lines ∙ rw (e, z)
 
     -- `at` is how many of its bytes stand before the closer
     module _ (at : ℕ) (h : at ≡ beforeCloser ρ k content) where
       pub first-closes : at < length content → blockAnswerAt ≡ foundBlock (found k name to true (i + at))
       first-closes c =
-          opened ∙ ap foundBlock (first-closed ρ k i firstLine others (closes_at ρ k content at h c))
+          opened ∙ ap foundBlock (first-closed ρ k i firstLine others (closes-at ρ k content at h c))
           ∙ ap (λ t. foundBlock (found k t (i + length content) true (i + beforeCloser ρ k content))) (sym w)
           ∙ ap (λ t. foundBlock (found k name t true (i + beforeCloser ρ k content))) stopped ∙ ap (λ t. foundBlock (found k name to true (i + t))) (sym h)
 
-      pub first_on : length content ≤ at → (m : ℕ) → drop m flags ≡ drop 1 (drop n flags) → blockAnswerAt ≡ continuationStartOf ρ k name s flags to m
+      pub first-on : length content ≤ at → (m : ℕ) → drop m flags ≡ drop 1 (drop n flags) → blockAnswerAt ≡ continuationStartOf ρ k name s flags to m
       unfolding continuationStartOf
-      first_on c m r =
-          opened ∙ ap foundBlock (first_goes ρ k i firstLine others (closes-not ρ k content at h c))
+      first-on c m r =
+          opened ∙ ap foundBlock (first-goes ρ k i firstLine others (closes-not ρ k content at h c))
           ∙ ap (λ t. foundBlock (goingOn ρ k t (i + length content) others)) (sym w)
           ∙ ap (λ t. foundBlock (goingOn ρ k name t others)) stopped ∙ ap (λ t. foundBlock (goingOn ρ k name to (flagged t (behind (drop to s))))) (sym r)
 

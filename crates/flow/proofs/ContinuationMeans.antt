@@ -9,12 +9,12 @@ use lib.Dec.{eqb, ltb}
 use lib.ListN.{length}
 use borrow.Author.Tests.{eqb-true, eq-eqb, ne_eqb, lt-ltb, le-ltb}
 use Rattle.lexical.specs.Text.{byte, bytes, pick}
-use Rattle.lexical.proofs.Cases.{split, clash, and_yes, and_no}
+use Rattle.lexical.proofs.Cases.{split, clash, and-yes, and-no}
 use Rattle.rules.specs.Search.{choose, begins, before}
 use Rattle.rules.specs.Block.{beforeEven, beforeCloser, closes}
 use Rattle.rules.specs.declared.Rules.{Rules}
 use Rattle.flow.specs.Answer.{kindNumber}
-use Rattle.flow.specs.ContinuationMachine.{continuationOf, commentInsideOf, cdataInsideOf, declarationInsideOf, next_of, isClose, closerLength, closedAt, meetsOf}
+use Rattle.flow.specs.ContinuationMachine.{continuationOf, commentInsideOf, cdataInsideOf, declarationInsideOf, nextOf, isClose, closerLength, closedAt, meetsOf}
 use Rattle.flow.specs.declared.html_flow.Kind.{Kind}
 use Rattle.flow.specs.declared.html_flow.Kind.TheVariants.{Comment, Instruction, Declaration, Cdata}
 use Rattle.flow.specs.declared.html_flow.ContinuationName.{ContinuationName}
@@ -48,7 +48,7 @@ module _ (ρ : Rules) where
   -- ---- a closer of a byte c twice and `>`
   module _ (κ : Kind) (c : ℕ) (one : ContinuationName) (same : eqb c c ≡ true) (not_yet : isClose one ≡ false) (three : closerLength κ ≡ 3)
       (at_none : (x : ℕ) → continuationOf κ x ≡ pick (eqb x c) one Continuation)
-      (at_one : (x : ℕ) → next_of ρ κ one x ≡ pick (eqb x c) ContinuationDeclarationInside (continuationOf κ x))
+      (at_one : (x : ℕ) → nextOf ρ κ one x ≡ pick (eqb x c) ContinuationDeclarationInside (continuationOf κ x))
       (at-two : (x : ℕ) → declarationInsideOf ρ κ x ≡ pick (eqb x c) ContinuationDeclarationInside (pick (eqb x (byte ">")) ContinuationClose (continuationOf κ x)))
       (mark : eqb (byte ">") c ≡ false) where
     abbrev closer : List ℕ → Bool
@@ -119,7 +119,7 @@ module _ (ρ : Rules) where
   cdata-at : ρ.f1 ≡ false → (i : ℕ) (s : List ℕ) → closedAt ρ Cdata Continuation i s ≡ i + before (begins (bytes "]]>")) s
   unfolding continuationOf cdataInsideOf
   cdata-at f i s =
-      (seen Cdata (byte "]") ContinuationCdataInside refl refl refl (λ x. refl) (λ x. refl) (λ x. cdata-inside false f x ∙ rw (and_yes (eqb x (byte "]")))) refl s).0 i
+      (seen Cdata (byte "]") ContinuationCdataInside refl refl refl (λ x. refl) (λ x. refl) (λ x. cdata-inside false f x ∙ rw (and-yes (eqb x (byte "]")))) refl s).0 i
 
   -- ---- F1: a maximal, even, nonempty run of `]` before `>`
   module _ (f : ρ.f1 ≡ true) where
@@ -145,20 +145,20 @@ module _ (ρ : Rules) where
     unfolding beforeEven
     reset2 n x xs h g = simp (h, g)
 
-    at_mark : (n : ℕ) (xs : List ℕ) → n % 2 ≡ 0 → beforeEven n (byte "]" ∷ byte "]" ∷ byte ">" ∷ xs) ≡ 0
+    at-mark : (n : ℕ) (xs : List ℕ) → n % 2 ≡ 0 → beforeEven n (byte "]" ∷ byte "]" ∷ byte ">" ∷ xs) ≡ 0
     unfolding beforeEven
-    at_mark n xs e = simp (eq-eqb (n % 2) 0 e)
+    at-mark n xs e = simp (eq-eqb (n % 2) 0 e)
 
     odd-on : (n : ℕ) (s : List ℕ) → eqb (n % 2) 0 ≡ false → beforeEven n (byte "]" ∷ s) ≡ suc (beforeEven (suc n) s)
     unfolding beforeEven
-    odd-on n s o = rw (o, and_no (begins (bytes "]]>") (byte "]" ∷ s)))
+    odd-on n s o = rw (o, and-no (begins (bytes "]]>") (byte "]" ∷ s)))
 
     two-on : (n : ℕ) (xs : List ℕ) → n % 2 ≡ 0 → beforeEven n (byte "]" ∷ byte "]" ∷ byte "]" ∷ xs) ≡ suc (suc (beforeEven (suc (suc n)) (byte "]" ∷ xs)))
     unfolding beforeEven
     two-on n xs e = let o : eqb (suc n % 2) 0 ≡ false = ne_eqb (suc n % 2) 0 (λ z. omega arith) in ap suc (odd-on (suc n) (byte "]" ∷ xs) o)
 
     inside : (x : ℕ) → declarationInsideOf ρ Cdata x ≡ pick (eqb x (byte ">")) ContinuationClose (continuationOf Cdata x)
-    inside x = cdata-inside true f x ∙ rw (and_no (eqb x (byte "]")))
+    inside x = cdata-inside true f x ∙ rw (and-no (eqb x (byte "]")))
 
     abbrev bracket : ℕ
     bracket = byte "]"
@@ -174,7 +174,7 @@ module _ (ρ : Rules) where
               (λ h. rw (eqb-true x bracket h) (on ρ Cdata ContinuationCdataInside (i + 1) bracket xs ContinuationDeclarationInside refl refl ∙ ap (λ m. closedAt ρ Cdata ContinuationDeclarationInside m xs) (plus i) ∙ ih.2 i n e))
               (λ h. on ρ Cdata ContinuationCdataInside (i + 1) x xs Continuation (rw h) refl ∙ ih.0 (i + 1 + 1) ∙ omega (arith, reset1 n x xs h))),
           (λ i n e. split (eqb x (byte ">"))
-              (λ g. rw (eqb-true x (byte ">") g) (here ρ Cdata ContinuationDeclarationInside (i + 2) (byte ">") xs ContinuationClose (sym (inside (byte ">"))) refl ∙ omega (arith, at_mark n xs e)))
+              (λ g. rw (eqb-true x (byte ">") g) (here ρ Cdata ContinuationDeclarationInside (i + 2) (byte ">") xs ContinuationClose (sym (inside (byte ">"))) refl ∙ omega (arith, at-mark n xs e)))
               (λ g. split (eqb x bracket)
               (λ h. rw (eqb-true x bracket h) (on ρ Cdata ContinuationDeclarationInside (i + 2) bracket xs ContinuationCdataInside (sym (inside bracket)) refl ∙ ih.1 (i + 2) (suc (suc n)) (omega arith) ∙ omega (arith, two-on n xs e)))
               (λ h. on ρ Cdata ContinuationDeclarationInside (i + 2) x xs Continuation (sym (inside x ∙ rw (g, h))) refl ∙ ih.0 (i + 2 + 1) ∙ omega (arith, reset2 n x xs h g)))),
@@ -206,14 +206,14 @@ module _ (ρ : Rules) where
       split ρ.f1 (λ f. omega (arith, (even f s).0 0, by true f)) (λ f. omega (arith, cdata-at f 0 s, by false f))
 
   -- ---- a closer is met exactly where it begins before the end
-  meets_at : (κ : Kind) → 0 < closerLength κ → (s : ContinuationName) (i : ℕ) (xs : List ℕ) → isClose s ≡ false → meetsOf ρ κ s xs ≡ ltb (closedAt ρ κ s i xs) (i + length xs)
+  meets-at : (κ : Kind) → 0 < closerLength κ → (s : ContinuationName) (i : ℕ) (xs : List ℕ) → isClose s ≡ false → meetsOf ρ κ s xs ≡ ltb (closedAt ρ κ s i xs) (i + length xs)
   unfolding meetsOf closedAt
-  meets_at κ z s i [] c = c ∙ sym (le-ltb i (i + 0) (omega arith))
-  meets_at κ z s i (x ∷ xs) c =
-      split (isClose (next_of ρ κ s x))
-      (λ h. rw (c, h) (met ρ κ (next_of ρ κ s x) xs h ∙ sym (lt-ltb (i + 1 - closerLength κ) (i + suc (length xs)) (omega arith))))
-      (λ h. let e : i + 1 + length xs ≡ i + suc (length xs) = omega arith in rw (c, h) (meets_at κ z (next_of ρ κ s x) (i + 1) xs h ∙ ap (ltb (closedAt ρ κ (next_of ρ κ s x) (i + 1) xs)) e))
+  meets-at κ z s i [] c = c ∙ sym (le-ltb i (i + 0) (omega arith))
+  meets-at κ z s i (x ∷ xs) c =
+      split (isClose (nextOf ρ κ s x))
+      (λ h. rw (c, h) (met ρ κ (nextOf ρ κ s x) xs h ∙ sym (lt-ltb (i + 1 - closerLength κ) (i + suc (length xs)) (omega arith))))
+      (λ h. let e : i + 1 + length xs ≡ i + suc (length xs) = omega arith in rw (c, h) (meets-at κ z (nextOf ρ κ s x) (i + 1) xs h ∙ ap (ltb (closedAt ρ κ (nextOf ρ κ s x) (i + 1) xs)) e))
 
   pub meets : (κ : Kind) → 0 < closerLength κ → Finds κ → (s : List ℕ) → meetsOf ρ κ Continuation s ≡ closes ρ (kindNumber κ) s
   unfolding closes
-  meets κ z e s = let n : 0 + length s ≡ length s = omega arith in meets_at κ z Continuation 0 s refl ∙ rw (e s, n)
+  meets κ z e s = let n : 0 + length s ≡ length s = omega arith in meets-at κ z Continuation 0 s refl ∙ rw (e s, n)

@@ -10,18 +10,18 @@ use borrow.Author.Tests.{not-true}
 use Rattle.lexical.specs.Text.{byte, run}
 use Rattle.lexical.specs.Byte.{isLineEndingByte}
 use Rattle.lexical.specs.Line.{isInner}
-use Rattle.lexical.proofs.Cases.{split, clash, or_left}
+use Rattle.lexical.proofs.Cases.{split, clash, or-left}
 use Rattle.lexical.proofs.Run.{behind-from}
 use Rattle.lexical.proofs.Suffix.{suffix-in, suffix-out}
 use Rattle.rules.specs.declared.Rules.{Rules}
-use Rattle.flow.specs.ContinuationMachine.{continuationOf, commentInsideOf, cdataInsideOf, stays, declarationInsideOf, next_of, isClose, isContinuation, closerStart, closerLength, closedAt, meetsOf}
+use Rattle.flow.specs.ContinuationMachine.{continuationOf, commentInsideOf, cdataInsideOf, stays, declarationInsideOf, nextOf, isClose, isContinuation, closerStart, closerLength, closedAt, meetsOf}
 use Rattle.flow.specs.declared.html_flow.Kind.{Kind}
 use Rattle.flow.specs.declared.html_flow.Kind.TheVariants.{Raw, Comment, Instruction, Declaration, Cdata, Basic, Complete}
 use Rattle.flow.specs.declared.html_flow.ContinuationName.{ContinuationName}
 use Rattle.flow.specs.declared.html_flow.ContinuationName.TheVariants.{Continuation, ContinuationCommentInside, ContinuationCdataInside, ContinuationDeclarationInside, ContinuationClose}
 
 -- r is what the name's function answers at the byte
-module _ (ρ : Rules) (κ : Kind) (s : ContinuationName) (i x : ℕ) (xs : List ℕ) (r : ContinuationName) (e : r ≡ next_of ρ κ s x) where
+module _ (ρ : Rules) (κ : Kind) (s : ContinuationName) (i x : ℕ) (xs : List ℕ) (r : ContinuationName) (e : r ≡ nextOf ρ κ s x) where
   pub on : isClose r ≡ false → closedAt ρ κ s i (x ∷ xs) ≡ closedAt ρ κ r (i + 1) xs
   unfolding closedAt
   on h = rw (← e, h)
@@ -32,7 +32,7 @@ module _ (ρ : Rules) (κ : Kind) (s : ContinuationName) (i x : ℕ) (xs : List 
 
 -- ---- the same at an index of a line
 module _ (ρ : Rules) (κ : Kind) (line : List ℕ) (s : ContinuationName) (i : ℕ) where
-  module _ (r : ContinuationName) (h : i < length line) (e : r ≡ next_of ρ κ s (get_or line i 0)) where
+  module _ (r : ContinuationName) (h : i < length line) (e : r ≡ nextOf ρ κ s (get_or line i 0)) where
     pub closer-on : isClose r ≡ false → closedAt ρ κ s i (drop i line) ≡ closedAt ρ κ r (i + 1) (drop (i + 1) line)
     closer-on c = rw (suffix-in line i h) (on ρ κ s i _ _ r e c)
 
@@ -57,19 +57,19 @@ met ρ κ s [] e = e
 met ρ κ s (x ∷ xs) e = rw e
 
 -- ---- no byte but the first of the closer changes anything
-no_start : (κ : Kind) (x : ℕ) → eqb x (closerStart κ) ≡ false → continuationOf κ x ≡ Continuation
+no-start : (κ : Kind) (x : ℕ) → eqb x (closerStart κ) ≡ false → continuationOf κ x ≡ Continuation
 unfolding continuationOf
-no_start Raw x e = refl
-no_start Comment x e = rw e
-no_start Instruction x e = rw e
-no_start Declaration x e = rw e
-no_start Cdata x e = rw e
-no_start Basic x e = refl
-no_start Complete x e = refl
+no-start Raw x e = refl
+no-start Comment x e = rw e
+no-start Instruction x e = rw e
+no-start Declaration x e = rw e
+no-start Cdata x e = rw e
+no-start Basic x e = refl
+no-start Complete x e = refl
 
 module _ (ρ : Rules) (κ : Kind) where
   inner-same : (i x : ℕ) (xs : List ℕ) → isInner (closerStart κ) x ≡ true → closedAt ρ κ Continuation i (x ∷ xs) ≡ closedAt ρ κ Continuation (i + 1) xs
-  inner-same i x xs h = on ρ κ Continuation i x xs Continuation (sym (no_start κ x (or_left (eqb x (closerStart κ)) (isLineEndingByte x) (not-true _ h)))) refl
+  inner-same i x xs h = on ρ κ Continuation i x xs Continuation (sym (no-start κ x (or-left (eqb x (closerStart κ)) (isLineEndingByte x) (not-true _ h)))) refl
 
   pub closer-behind : (s : ContinuationName) (mark : ℕ) → isContinuation s ≡ true → mark ≡ closerStart κ → (line : List ℕ) (i j : ℕ)
       → j ≡ i + run (isInner mark) (drop i line) → closedAt ρ κ s i (drop i line) ≡ closedAt ρ κ s j (drop j line)
@@ -87,15 +87,15 @@ seen κ ContinuationCdataInside = 1
 seen κ ContinuationDeclarationInside = closerLength κ - 1
 seen κ ContinuationClose = closerLength κ
 
-seen_first : (κ : Kind) (x : ℕ) → seen κ (continuationOf κ x) ≤ 1
+seen-first : (κ : Kind) (x : ℕ) → seen κ (continuationOf κ x) ≤ 1
 unfolding continuationOf
-seen_first Raw x = omega arith
-seen_first Comment x = split (eqb x (byte "-")) (λ h. rw h (omega arith)) (λ h. rw h (omega arith))
-seen_first Instruction x = split (eqb x (byte "?")) (λ h. rw h (omega arith)) (λ h. rw h (omega arith))
-seen_first Declaration x = split (eqb x (byte ">")) (λ h. rw h (omega arith)) (λ h. rw h (omega arith))
-seen_first Cdata x = split (eqb x (byte "]")) (λ h. rw h (omega arith)) (λ h. rw h (omega arith))
-seen_first Basic x = omega arith
-seen_first Complete x = omega arith
+seen-first Raw x = omega arith
+seen-first Comment x = split (eqb x (byte "-")) (λ h. rw h (omega arith)) (λ h. rw h (omega arith))
+seen-first Instruction x = split (eqb x (byte "?")) (λ h. rw h (omega arith)) (λ h. rw h (omega arith))
+seen-first Declaration x = split (eqb x (byte ">")) (λ h. rw h (omega arith)) (λ h. rw h (omega arith))
+seen-first Cdata x = split (eqb x (byte "]")) (λ h. rw h (omega arith)) (λ h. rw h (omega arith))
+seen-first Basic x = omega arith
+seen-first Complete x = omega arith
 
 closer-short : (κ : Kind) → closerLength κ ≤ 3
 closer-short Raw = omega arith
@@ -106,17 +106,17 @@ closer-short Cdata = omega arith
 closer-short Basic = omega arith
 closer-short Complete = omega arith
 
-seen_next : (ρ : Rules) (κ : Kind) (s : ContinuationName) (x : ℕ) → seen κ (next_of ρ κ s x) ≤ seen κ s + 1
+seen-next : (ρ : Rules) (κ : Kind) (s : ContinuationName) (x : ℕ) → seen κ (nextOf ρ κ s x) ≤ seen κ s + 1
 unfolding commentInsideOf cdataInsideOf declarationInsideOf
-seen_next ρ κ Continuation x = seen_first κ x
-seen_next ρ κ ContinuationCommentInside x = split (eqb x (byte "-")) (λ h. rw h (omega (arith, closer-short κ))) (λ h. rw h (omega (arith, seen_first κ x)))
-seen_next ρ κ ContinuationCdataInside x = split (eqb x (byte "]")) (λ h. rw h (omega (arith, closer-short κ))) (λ h. rw h (omega (arith, seen_first κ x)))
-seen_next ρ κ ContinuationDeclarationInside x =
-    split (stays ρ κ x) (λ h. rw h (omega arith)) (λ h. rw h (split (eqb x (byte ">")) (λ g. rw g (omega arith)) (λ g. rw g (omega (arith, seen_first κ x)))))
-seen_next ρ κ ContinuationClose x = omega arith
+seen-next ρ κ Continuation x = seen-first κ x
+seen-next ρ κ ContinuationCommentInside x = split (eqb x (byte "-")) (λ h. rw h (omega (arith, closer-short κ))) (λ h. rw h (omega (arith, seen-first κ x)))
+seen-next ρ κ ContinuationCdataInside x = split (eqb x (byte "]")) (λ h. rw h (omega (arith, closer-short κ))) (λ h. rw h (omega (arith, seen-first κ x)))
+seen-next ρ κ ContinuationDeclarationInside x =
+    split (stays ρ κ x) (λ h. rw h (omega arith)) (λ h. rw h (split (eqb x (byte ">")) (λ g. rw g (omega arith)) (λ g. rw g (omega (arith, seen-first κ x)))))
+seen-next ρ κ ContinuationClose x = omega arith
 
-pub seen-turn : (ρ : Rules) (κ : Kind) (s : ContinuationName) (i x : ℕ) (r : ContinuationName) → seen κ s ≤ i → r ≡ next_of ρ κ s x → seen κ r ≤ i + 1
-seen-turn ρ κ s i x r h e = omega (arith, ap (seen κ) e, seen_next ρ κ s x)
+pub seen-turn : (ρ : Rules) (κ : Kind) (s : ContinuationName) (i x : ℕ) (r : ContinuationName) → seen κ s ≤ i → r ≡ nextOf ρ κ s x → seen κ r ≤ i + 1
+seen-turn ρ κ s i x r h e = omega (arith, ap (seen κ) e, seen-next ρ κ s x)
 
 seen-close : (κ : Kind) (r : ContinuationName) → isClose r ≡ true → seen κ r ≡ closerLength κ
 seen-close κ Continuation c = clash _ c refl
@@ -125,5 +125,5 @@ seen-close κ ContinuationCdataInside c = clash _ c refl
 seen-close κ ContinuationDeclarationInside c = clash _ c refl
 seen-close κ ContinuationClose c = refl
 
-pub closer-read : (ρ : Rules) (κ : Kind) (s : ContinuationName) (i x : ℕ) (r : ContinuationName) → seen κ s ≤ i → r ≡ next_of ρ κ s x → isClose r ≡ true → closerLength κ ≤ i + 1
+pub closer-read : (ρ : Rules) (κ : Kind) (s : ContinuationName) (i x : ℕ) (r : ContinuationName) → seen κ s ≤ i → r ≡ nextOf ρ κ s x → isClose r ≡ true → closerLength κ ≤ i + 1
 closer-read ρ κ s i x r h e c = omega (arith, seen-turn ρ κ s i x r h e, seen-close κ r c)

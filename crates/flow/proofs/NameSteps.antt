@@ -9,7 +9,7 @@ use Rattle.lexical.specs.Text.{byte, bytes, first, run}
 use Rattle.lexical.specs.Byte.{isTagNameByte, isNameBreak}
 use Rattle.lexical.specs.Name.{isBlockName, isRawName}
 use Rattle.rules.specs.Search.{choose, begins}
-use Rattle.rules.specs.Block.{name_of, afterName}
+use Rattle.rules.specs.Block.{nameOf, afterName}
 use Rattle.rules.specs.declared.Rules.{Rules}
 use Rattle.rules.proofs.NameLaws.{after-cut}
 use Rattle.rules.proofs.Prefix.{one-first}
@@ -17,7 +17,7 @@ use Rattle.flow.specs.OpenMachine.{selfClosingOf, completeOf, tagNameOf}
 
 module _ (line : List ℕ) (at end : ℕ) (ends : end ≡ at + run isTagNameByte (drop at line)) where
   abbrev n : List ℕ
-  n = name_of (drop at line)
+  n = nameOf (drop at line)
 
   abbrev a : List ℕ
   a = afterName (drop at line)
@@ -38,17 +38,17 @@ module _ (line : List ℕ) (at end : ℕ) (ends : end ≡ at + run isTagNameByte
 
     -- r, s: the name is raw, `/` follows
     module _ (r s : Bool) (brk : isNameBreak (drop end line) ≡ true) (raw : isRawName n ≡ r) (slash : eqb (first (drop end line)) (byte "/") ≡ s) where
-      by_tests : opens
+      by-tests : opens
           ≡ choose (r && (not closing && not s)) (λ _. 1)
           (λ _. choose (isBlockName n) (λ _. choose s (λ _. selfClosingOf a) (λ _. 6)) (λ _. completeOf ρ f closing r a))
       unfolding tagNameOf
-      by_tests = rw (break-here true brk, raw, slash-here s slash)
+      by-tests = rw (break-here true brk, raw, slash-here s slash)
 
       pub raw-name : (r && (not closing && not s)) ≡ true → opens ≡ 1
-      raw-name h = by_tests ∙ ap (λ t. choose t (λ _. 1) (λ _. choose (isBlockName n) (λ _. choose s (λ _. selfClosingOf a) (λ _. 6)) (λ _. completeOf ρ f closing r a))) h
+      raw-name h = by-tests ∙ ap (λ t. choose t (λ _. 1) (λ _. choose (isBlockName n) (λ _. choose s (λ _. selfClosingOf a) (λ _. 6)) (λ _. completeOf ρ f closing r a))) h
 
       pub block-name : (r && (not closing && not s)) ≡ false → isBlockName n ≡ true → opens ≡ choose s (λ _. selfClosingOf (drop end line)) (λ _. 6)
-      block-name h b = by_tests ∙ rw (h, b, after-cut line at end ends)
+      block-name h b = by-tests ∙ rw (h, b, after-cut line at end ends)
 
-      pub other_name : (r && (not closing && not s)) ≡ false → isBlockName n ≡ false → opens ≡ completeOf ρ f closing r (drop end line)
-      other_name h b = by_tests ∙ rw (h, b, after-cut line at end ends)
+      pub other-name : (r && (not closing && not s)) ≡ false → isBlockName n ≡ false → opens ≡ completeOf ρ f closing r (drop end line)
+      other-name h b = by-tests ∙ rw (h, b, after-cut line at end ends)

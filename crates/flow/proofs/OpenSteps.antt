@@ -15,44 +15,44 @@ use Rattle.lexical.proofs.Cases.{split, excluded}
 use Rattle.lexical.proofs.Suffix.{suffix-in, suffix-out, first-in}
 use Rattle.rules.specs.Search.{choose, begins}
 use Rattle.rules.specs.Tag.{blockTags, attributes}
-use Rattle.rules.specs.Block.{name_of, afterName, fillsLine, mayStart, kind_at, kind_of, indentation, place_in, tagName}
+use Rattle.rules.specs.Block.{nameOf, afterName, fillsLine, mayStart, kindAt, kindOf, indentation, placeIn, tagName}
 use Rattle.rules.specs.Lines.{Line, line}
 use Rattle.rules.specs.declared.Rules.{Rules}
 use Rattle.rules.proofs.Cut.{space-apart}
 use Rattle.rules.proofs.Prefix.{one-first}
 use Rattle.flow.specs.Answer.{openingNumber}
 use Rattle.flow.specs.declared.html_flow.Opening.{Opening}
-use Rattle.flow.specs.CompleteMachine.{run_of}
+use Rattle.flow.specs.CompleteMachine.{runOf}
 use Rattle.flow.specs.OpenMachine.{selfClosingOf, completesOf, completeOf, tagNameOf, commentOpenOf, declarationOpenOf, tagCloseStartOf, openOf, Names}
 use Rattle.flow.specs.declared.tokenizer.StateName.TheVariants.{CompleteClosingTagAfter, CompleteAttributeValueQuotedAfter}
-use Rattle.flow.proofs.CompleteMeans.{open_is, close-is}
-use Rattle.flow.proofs.OpenMeans.{kind-is, not_opened, nothing-opened}
+use Rattle.flow.proofs.CompleteMeans.{open-is, close-is}
+use Rattle.flow.proofs.OpenMeans.{kind-is, not-opened, nothing-opened}
 
 -- ---- complete tags
 module _ (ρ : Rules) (f : ℕ) (a : List ℕ) where
   -- by two bits: kind 7 may start, and the tag completes
-  by_bits : (closing raw b : Bool) → mayStart ρ f ≡ true → completesOf ρ closing raw a ≡ b → completeOf ρ f closing raw a ≡ choose b (λ _. 7) (λ _. 0)
+  by-bits : (closing raw b : Bool) → mayStart ρ f ≡ true → completesOf ρ closing raw a ≡ b → completeOf ρ f closing raw a ≡ choose b (λ _. 7) (λ _. 0)
   unfolding completeOf
-  by_bits closing raw b m e = ap (λ t. choose (t && completesOf ρ closing raw a) (λ _. 7) (λ _. 0)) m ∙ ap (λ t. choose t (λ _. 7) (λ _. 0)) e
+  by-bits closing raw b m e = ap (λ t. choose (t && completesOf ρ closing raw a) (λ _. 7) (λ _. 0)) m ∙ ap (λ t. choose t (λ _. 7) (λ _. 0)) e
 
   pub may-not : (closing raw : Bool) → mayStart ρ f ≡ false → completeOf ρ f closing raw a ≡ 0
   unfolding completeOf
   may-not closing raw m = ap (λ t. choose (t && completesOf ρ closing raw a) (λ _. 7) (λ _. 0)) m
 
-  pub closing-tag : (raw b : Bool) → mayStart ρ f ≡ true → run_of ρ CompleteClosingTagAfter a ≡ b → completeOf ρ f true raw a ≡ choose b (λ _. 7) (λ _. 0)
-  closing-tag raw b m e = by_bits true raw b m (sym (close-is ρ a) ∙ e)
+  pub closing-tag : (raw b : Bool) → mayStart ρ f ≡ true → runOf ρ CompleteClosingTagAfter a ≡ b → completeOf ρ f true raw a ≡ choose b (λ _. 7) (λ _. 0)
+  closing-tag raw b m e = by-bits true raw b m (sym (close-is ρ a) ∙ e)
 
-  pub open-tag : (raw b : Bool) → mayStart ρ f ≡ true → (ρ.f3 || not raw) ≡ true → run_of ρ CompleteAttributeValueQuotedAfter a ≡ b → completeOf ρ f false raw a ≡ choose b (λ _. 7) (λ _. 0)
+  pub open-tag : (raw b : Bool) → mayStart ρ f ≡ true → (ρ.f3 || not raw) ≡ true → runOf ρ CompleteAttributeValueQuotedAfter a ≡ b → completeOf ρ f false raw a ≡ choose b (λ _. 7) (λ _. 0)
   open-tag raw b m t e =
-      by_bits false raw b m
-      (ap (λ x. x && fillsLine (attributes (blockTags ρ) (suc (length a)) a)) t ∙ sym (open_is ρ (suc (length a)) a (omega arith)) ∙ e)
+      by-bits false raw b m
+      (ap (λ x. x && fillsLine (attributes (blockTags ρ) (suc (length a)) a)) t ∙ sym (open-is ρ (suc (length a)) a (omega arith)) ∙ e)
 
   pub raw-tag : (raw : Bool) → mayStart ρ f ≡ true → (ρ.f3 || not raw) ≡ false → completeOf ρ f false raw a ≡ 0
-  raw-tag raw m t = by_bits false raw false m (ap (λ x. x && fillsLine (attributes (blockTags ρ) (suc (length a)) a)) t)
+  raw-tag raw m t = by-bits false raw false m (ap (λ x. x && fillsLine (attributes (blockTags ρ) (suc (length a)) a)) t)
 
 -- ---- the name that an opening carries
 pub renamed : (r : Opening) (m n : List ℕ) → m ≡ n → Names r m → Names r n
-renamed r m n e h = h ∙ ap (place_in (openingNumber r)) e
+renamed r m n e h = h ∙ ap (placeIn (openingNumber r)) e
 
 -- ---- behind a name
 module _ (line : List ℕ) (i : ℕ) where
@@ -64,9 +64,9 @@ module _ (line : List ℕ) (i : ℕ) where
   unfolding selfClosingOf
   self-other h e = rw (suffix-in line i h, ne_eqb (get_or line i 0) (byte "/") e)
 
-  pub self_in : i < length line → get_or line i 0 ≡ byte "/" → selfClosingOf (drop i line) ≡ choose (eqb (first (drop (i + 1) line)) (byte ">")) (λ _. 6) (λ _. 0)
+  pub self-in : i < length line → get_or line i 0 ≡ byte "/" → selfClosingOf (drop i line) ≡ choose (eqb (first (drop (i + 1) line)) (byte ">")) (λ _. 6) (λ _. 0)
   unfolding selfClosingOf
-  self_in h e = rw (suffix-in line i h, e) (ap (λ b. choose b (λ _. 6) (λ _. 0)) (one-first (byte ">") (drop (i + 1) line) refl))
+  self-in h e = rw (suffix-in line i h, e) (ap (λ b. choose b (λ _. 6) (λ _. 0)) (one-first (byte ">") (drop (i + 1) line) refl))
 
 pub comment-first : (s : List ℕ) → commentOpenOf s ≡ choose (eqb (first s) (byte "-")) (λ _. 2) (λ _. 0)
 unfolding commentOpenOf
@@ -101,10 +101,10 @@ module _ (line : List ℕ) (i : ℕ) where
   declaration-other h e l g = rw (suffix-in line i h, ne_eqb b (byte "-") e, l, ne_eqb b (byte "[") g)
 
   -- the tag name behind `</` and behind `<`
-  pub name-slash : i < length line → b ≡ byte "/" → tagName (byte "<" ∷ drop i line) ≡ name_of rest
+  pub name-slash : i < length line → b ≡ byte "/" → tagName (byte "<" ∷ drop i line) ≡ nameOf rest
   name-slash h e = rw (suffix-in line i h, e)
 
-  pub name-here : i < length line → (b ≡ byte "/" → ⊥) → tagName (byte "<" ∷ drop i line) ≡ name_of (drop i line)
+  pub name-here : i < length line → (b ≡ byte "/" → ⊥) → tagName (byte "<" ∷ drop i line) ≡ nameOf (drop i line)
   name-here h e = rw (suffix-in line i h, ne_eqb b (byte "/") e)
 
   pub marked : i < length line → b ≡ byte "<" → drop i line ≡ byte "<" ∷ rest
@@ -116,9 +116,9 @@ module _ (line : List ℕ) (i : ℕ) where
     close-out h = rw (suffix-out line i h)
 
     pub close-in : (t : Bool) → i < length line → isLetter b ≡ t
-        → tagCloseStartOf ρ f (drop i line) ≡ choose t (λ _. tagNameOf ρ f true (name_of (drop i line)) (afterName (drop i line))) (λ _. 0)
+        → tagCloseStartOf ρ f (drop i line) ≡ choose t (λ _. tagNameOf ρ f true (nameOf (drop i line)) (afterName (drop i line))) (λ _. 0)
     unfolding tagCloseStartOf
-    close-in t h e = ap (λ x. choose x (λ _. tagNameOf ρ f true (name_of (drop i line)) (afterName (drop i line))) (λ _. 0)) (ap isLetter (first-in line i h) ∙ e)
+    close-in t h e = ap (λ x. choose x (λ _. tagNameOf ρ f true (nameOf (drop i line)) (afterName (drop i line))) (λ _. 0)) (ap isLetter (first-in line i h) ∙ e)
 
     pub open-out : length line ≤ i → openOf ρ f (drop i line) ≡ 0
     unfolding openOf
@@ -138,32 +138,32 @@ module _ (line : List ℕ) (i : ℕ) where
 
     -- a byte that is none of these
     pub open-name : (t : Bool) → i < length line → (b ≡ byte "!" → ⊥) → (b ≡ byte "/" → ⊥) → (b ≡ byte "?" → ⊥) → isLetter b ≡ t
-        → openOf ρ f (drop i line) ≡ choose t (λ _. tagNameOf ρ f false (name_of (drop i line)) (afterName (drop i line))) (λ _. 0)
+        → openOf ρ f (drop i line) ≡ choose t (λ _. tagNameOf ρ f false (nameOf (drop i line)) (afterName (drop i line))) (λ _. 0)
     unfolding openOf
     open-name t h x y z e = rw (suffix-in line i h, ne_eqb b (byte "!") x, ne_eqb b (byte "/") y, ne_eqb b (byte "?") z, e)
 
-    pub before-out : length line ≤ i → kind_at ρ f (drop i line) ≡ 0
-    before-out h = ap (kind_at ρ f) (suffix-out line i h) ∙ nothing-opened ρ f
+    pub before-out : length line ≤ i → kindAt ρ f (drop i line) ≡ 0
+    before-out h = ap (kindAt ρ f) (suffix-out line i h) ∙ nothing-opened ρ f
 
-    pub before-other : i < length line → (b ≡ byte "<" → ⊥) → kind_at ρ f (drop i line) ≡ 0
-    before-other h e = ap (kind_at ρ f) (suffix-in line i h) ∙ not_opened ρ f b rest (ne_eqb b (byte "<") e)
+    pub before-other : i < length line → (b ≡ byte "<" → ⊥) → kindAt ρ f (drop i line) ≡ 0
+    before-other h e = ap (kindAt ρ f) (suffix-in line i h) ∙ not-opened ρ f b rest (ne_eqb b (byte "<") e)
 
-    pub before-in : i < length line → b ≡ byte "<" → kind_at ρ f (drop i line) ≡ openOf ρ f rest
-    before-in h e = ap (kind_at ρ f) (marked h e) ∙ kind-is ρ f rest
+    pub before-in : i < length line → b ≡ byte "<" → kindAt ρ f (drop i line) ≡ openOf ρ f rest
+    before-in h e = ap (kindAt ρ f) (marked h e) ∙ kind-is ρ f rest
 
 -- ---- the indentation
 module _ (ρ : Rules) (l : Line) where
   abbrev indent : ℕ
   indent = indentation l.content
 
-  by-depth : (t : Bool) → leb indent 3 ≡ t → kind_of ρ l ≡ choose t (λ _. kind_at ρ l.flag (drop indent l.content)) (λ _. 0)
-  unfolding kind_of
-  by-depth t e = ap (λ x. choose x (λ _. kind_at ρ l.flag (drop indent l.content)) (λ _. 0)) e
+  by-depth : (t : Bool) → leb indent 3 ≡ t → kindOf ρ l ≡ choose t (λ _. kindAt ρ l.flag (drop indent l.content)) (λ _. 0)
+  unfolding kindOf
+  by-depth t e = ap (λ x. choose x (λ _. kindAt ρ l.flag (drop indent l.content)) (λ _. 0)) e
 
-  pub too-deep : 3 < indent → kind_of ρ l ≡ 0
+  pub too-deep : 3 < indent → kindOf ρ l ≡ 0
   too-deep h = by-depth false (lt-leb indent 3 h)
 
-  pub not-deep : indent ≤ 3 → kind_of ρ l ≡ kind_at ρ l.flag (drop indent l.content)
+  pub not-deep : indent ≤ 3 → kindOf ρ l ≡ kindAt ρ l.flag (drop indent l.content)
   not-deep h = by-depth true (le-leb indent 3 h)
 
 -- ---- a text whose first byte behind spaces and tabs is not `<`
@@ -179,11 +179,11 @@ indent-first (x ∷ xs) h =
     (λ r. split (eqb x (byte "\t")) (λ t. rw (eqb-true x (byte "\t") t)) (λ t. let u : eqb x (byte "<") ≡ false = simp (e, t) at h in simp (e, r, u))))
 
 module _ (ρ : Rules) (f : ℕ) where
-  unmarked : (s : List ℕ) → eqb (first s) (byte "<") ≡ false → kind_at ρ f s ≡ 0
+  unmarked : (s : List ℕ) → eqb (first s) (byte "<") ≡ false → kindAt ρ f s ≡ 0
   unmarked [] h = nothing-opened ρ f
-  unmarked (x ∷ xs) h = not_opened ρ f x xs h
+  unmarked (x ∷ xs) h = not-opened ρ f x xs h
 
-  pub no_kind : (s : List ℕ) → eqb (first (drop (run isSpaceOrTab s) s)) (byte "<") ≡ false → kind_of ρ (line f [] (take (lineLength s) s)) ≡ 0
-  no_kind s h =
+  pub no-kind : (s : List ℕ) → eqb (first (drop (run isSpaceOrTab s) s)) (byte "<") ≡ false → kindOf ρ (line f [] (take (lineLength s) s)) ≡ 0
+  no-kind s h =
       let l : Line = line f [] (take (lineLength s) s) in
       split (leb (indent ρ l) 3) (λ e. by-depth ρ l true e ∙ unmarked (drop (indent ρ l) l.content) (indent-first s h)) (λ e. by-depth ρ l false e)

@@ -8,19 +8,19 @@ use native.Mathlib.Omega.{arith}
 use lib.Dec.{eqb}
 use lib.ListN.{length, get_or, take, drop}
 use lib.Seq.{drop-drop, get_or-take, get_or-drop, length-take-le}
-use Rattle.lexical.proofs.Run.{run_length}
+use Rattle.lexical.proofs.Run.{run-length}
 use borrow.Author.Tests.{ne_eqb, eqb-true, not-true}
 use Rattle.lexical.specs.Text.{byte, bytes, first, run}
 use Rattle.lexical.specs.Byte.{isLetter, isTagNameByte, isLineEndingByte}
 use Rattle.lexical.specs.Line.{isInner}
 use Rattle.lexical.specs.Name.{isRawName}
-use Rattle.lexical.proofs.Cases.{split, clash, or_left, and_no, and_yes, letter-byte}
+use Rattle.lexical.proofs.Cases.{split, clash, or-left, and-no, and-yes, letter-byte}
 use Rattle.lexical.proofs.Members.{raw-letters, raw-length}
 use Rattle.lexical.proofs.Table.{all-at}
-use Rattle.lexical.proofs.Suffix.{suffix-in, suffix-out, first-in, first_out}
+use Rattle.lexical.proofs.Suffix.{suffix-in, suffix-out, first-in, first-out}
 use Rattle.rules.specs.Search.{begins}
 use Rattle.rules.proofs.Past.{firstFrom, first-behind}
-use Rattle.rules.specs.Block.{name_of, afterName, isRawEnd}
+use Rattle.rules.specs.Block.{nameOf, afterName, isRawEnd}
 use Rattle.flow.specs.ContinuationMachine.{rawEndOf}
 
 -- ---- the recursion at an index of a line
@@ -31,21 +31,21 @@ module _ (line : List ℕ) (start at : ℕ) (order : start ≤ at) where
   abbrev m : ℕ
   m = at - start
 
-  at_drop : drop m t ≡ drop at line
-  at_drop = let e : start + m ≡ at = omega arith in drop-drop m start line ∙ ap (λ (i : ℕ). drop i line) e
+  at-drop : drop m t ≡ drop at line
+  at-drop = let e : start + m ≡ at = omega arith in drop-drop m start line ∙ ap (λ (i : ℕ). drop i line) e
 
   first-here : at < length line → first (drop m t) ≡ get_or line at 0
-  first-here h = ap first at_drop ∙ first-in line at h
+  first-here h = ap first at-drop ∙ first-in line at h
 
   pub at-end : (n : ℕ) → length line ≤ at → rawEndOf n t m ≡ false
   unfolding rawEndOf
-  at-end zero h = rw (at_drop, first_out line at h)
-  at-end (suc n) h = rw (at_drop, first_out line at h)
+  at-end zero h = rw (at-drop, first-out line at h)
+  at-end (suc n) h = rw (at-drop, first-out line at h)
 
-  pub at_mark : (n : ℕ) → at < length line → get_or line at 0 ≡ byte ">" → rawEndOf n t m ≡ isRawName (take m t)
+  pub at-mark : (n : ℕ) → at < length line → get_or line at 0 ≡ byte ">" → rawEndOf n t m ≡ isRawName (take m t)
   unfolding rawEndOf
-  at_mark zero h e = rw (first-here h, e)
-  at_mark (suc n) h e = rw (first-here h, e)
+  at-mark zero h e = rw (first-here h, e)
+  at-mark (suc n) h e = rw (first-here h, e)
 
   pub at-letter : (n : ℕ) → at < length line → (get_or line at 0 ≡ byte ">" → ⊥) → isLetter (get_or line at 0) ≡ true → 0 < n
       → rawEndOf n t m ≡ rawEndOf (n - 1) t ((at + 1) - start)
@@ -56,19 +56,19 @@ module _ (line : List ℕ) (start at : ℕ) (order : start ≤ at) where
       let b : suc n - 1 ≡ n = omega arith in
       rw (first-here h, ne_eqb (get_or line at 0) (byte ">") e, l, b, a)
 
-  pub at_last : (n : ℕ) → at < length line → (get_or line at 0 ≡ byte ">" → ⊥) → n ≤ 0 → rawEndOf n t m ≡ false
+  pub at-last : (n : ℕ) → at < length line → (get_or line at 0 ≡ byte ">" → ⊥) → n ≤ 0 → rawEndOf n t m ≡ false
   unfolding rawEndOf
-  at_last zero h e p = rw (first-here h, ne_eqb (get_or line at 0) (byte ">") e)
-  at_last (suc n) h e p = absurd (omega arith)
+  at-last zero h e p = rw (first-here h, ne_eqb (get_or line at 0) (byte ">") e)
+  at-last (suc n) h e p = absurd (omega arith)
 
-  pub at_other : (n : ℕ) → at < length line → (get_or line at 0 ≡ byte ">" → ⊥) → isLetter (get_or line at 0) ≡ false → rawEndOf n t m ≡ false
+  pub at-other : (n : ℕ) → at < length line → (get_or line at 0 ≡ byte ">" → ⊥) → isLetter (get_or line at 0) ≡ false → rawEndOf n t m ≡ false
   unfolding rawEndOf
-  at_other zero h e l = rw (first-here h, ne_eqb (get_or line at 0) (byte ">") e)
-  at_other (suc n) h e l = rw (first-here h, ne_eqb (get_or line at 0) (byte ">") e, l)
+  at-other zero h e l = rw (first-here h, ne_eqb (get_or line at 0) (byte ">") e)
+  at-other (suc n) h e l = rw (first-here h, ne_eqb (get_or line at 0) (byte ">") e, l)
 
 -- ---- the letters so far are a tag name's, and n + m is eight
 abbrev whole : List ℕ → Bool
-whole t = isRawName (name_of t) && begins (bytes ">") (afterName t)
+whole t = isRawName (nameOf t) && begins (bytes ">") (afterName t)
 
 -- a raw name has no byte that is no letter
 no-raw : (n : List ℕ) (i : ℕ) → i < length n → isLetter (get_or n i 0) ≡ false → isRawName n ≡ false
@@ -94,28 +94,28 @@ module _ (t : List ℕ) where
       ap (λ (n : ℕ). isRawName (take n t) && begins (bytes ">") (drop n t)) e ∙ ap (λ (v : List ℕ). isRawName (take m t) && begins (bytes ">") v) g.rest
 
   -- where it does not, it has the next byte
-  next-byte : (m y : ℕ) (ys : List ℕ) → Goes m (y ∷ ys) → m < r → get_or (name_of t) m 0 ≡ y
+  next-byte : (m y : ℕ) (ys : List ℕ) → Goes m (y ∷ ys) → m < r → get_or (nameOf t) m 0 ≡ y
   next-byte m y ys g h =
       let z : m + 0 ≡ m = omega arith in
       get_or-take r t m 0 h ∙ sym (ap (λ (i : ℕ). get_or t i 0) z) ∙ sym (get_or-drop m t 0 0) ∙ ap (λ (v : List ℕ). get_or v 0 0) g.rest
 
-  name-length : length (name_of t) ≡ r
-  name-length = length-take-le r t (run_length isTagNameByte t)
+  name-length : length (nameOf t) ≡ r
+  name-length = length-take-le r t (run-length isTagNameByte t)
 
-  goes_on : (m y : ℕ) (ys : List ℕ) → Goes m (y ∷ ys) → isTagNameByte y ≡ true → Goes (suc m) ys
+  goes-on : (m y : ℕ) (ys : List ℕ) → Goes m (y ∷ ys) → isTagNameByte y ≡ true → Goes (suc m) ys
   unfolding run
-  goes_on m y ys g h =
+  goes-on m y ys g h =
       let e : r ≡ m + suc (run isTagNameByte ys) = rw h at g.name in
       let one : m + 1 ≡ suc m = omega arith in
       record { rest = sym (ap (λ (i : ℕ). drop i t) one) ∙ sym (drop-drop 1 m t) ∙ ap (drop 1) g.rest; name = omega arith }
 
-  run_none : (y : ℕ) (ys : List ℕ) → isTagNameByte y ≡ false → run isTagNameByte (y ∷ ys) ≡ 0
+  run-none : (y : ℕ) (ys : List ℕ) → isTagNameByte y ≡ false → run isTagNameByte (y ∷ ys) ≡ 0
   unfolding run
-  run_none y ys h = rw h
+  run-none y ys h = rw h
 
   -- longer than m bytes
   reaches : (m y : ℕ) (ys : List ℕ) → Goes m (y ∷ ys) → isTagNameByte y ≡ true → m < r
-  reaches m y ys g h = omega (arith, (goes_on m y ys g h).name)
+  reaches m y ys g h = omega (arith, (goes-on m y ys g h).name)
 
   -- what the recursion says at a byte
   says : (n m y : ℕ) (ys : List ℕ) → drop m t ≡ y ∷ ys → eqb y (byte ">") ≡ true → rawEndOf n t m ≡ isRawName (take m t)
@@ -141,7 +141,7 @@ module _ (t : List ℕ) where
   ended zero m e = rw e
   ended (suc n) m e = rw e
 
-  not-raw : isRawName (name_of t) ≡ false → whole t ≡ false
+  not-raw : isRawName (nameOf t) ≡ false → whole t ≡ false
   not-raw h = rw h
 
   nil-run : run isTagNameByte [] ≡ 0
@@ -153,27 +153,27 @@ module _ (t : List ℕ) where
   mark-run y e = rw (eqb-true y (byte ">") e)
 
   at-end-mark : (n m y : ℕ) (ys : List ℕ) → Goes m (y ∷ ys) → eqb y (byte ">") ≡ true → rawEndOf n t m ≡ whole t
-  at-end-mark n m y ys g e = says n m y ys g.rest e ∙ sym (stopped m (y ∷ ys) g (run_none y ys (mark-run y e)) ∙ rw e (and_yes (isRawName (take m t))))
+  at-end-mark n m y ys g e = says n m y ys g.rest e ∙ sym (stopped m (y ∷ ys) g (run-none y ys (mark-run y e)) ∙ rw e (and-yes (isRawName (take m t))))
 
   -- a byte that is neither `>` nor a letter
   other-is : (m y : ℕ) (ys : List ℕ) → Goes m (y ∷ ys) → eqb y (byte ">") ≡ false → isLetter y ≡ false → whole t ≡ false
   other-is m y ys g e l =
       split (isTagNameByte y)
-      (λ b. not-raw (no-raw (name_of t) m (omega (arith, reaches m y ys g b, name-length)) (ap isLetter (next-byte m y ys g (reaches m y ys g b)) ∙ l)))
-      (λ b. stopped m (y ∷ ys) g (run_none y ys b) ∙ rw e (and_no (isRawName (take m t))))
+      (λ b. not-raw (no-raw (nameOf t) m (omega (arith, reaches m y ys g b, name-length)) (ap isLetter (next-byte m y ys g (reaches m y ys g b)) ∙ l)))
+      (λ b. stopped m (y ∷ ys) g (run-none y ys b) ∙ rw e (and-no (isRawName (take m t))))
 
   -- n letters more are allowed behind the m that were read
   rawEnd-is : (n m : ℕ) (u : List ℕ) → n + m ≡ 8 → Goes m u → rawEndOf n t m ≡ whole t
-  rawEnd-is n m [] k g = ended n m g.rest ∙ sym (stopped m [] g nil-run ∙ and_no (isRawName (take m t)))
+  rawEnd-is n m [] k g = ended n m g.rest ∙ sym (stopped m [] g nil-run ∙ and-no (isRawName (take m t)))
   rawEnd-is zero m (y ∷ ys) k g =
       split (eqb y (byte ">")) (λ e. at-end-mark zero m y ys g e)
       (λ e. split (isLetter y)
-      (λ l. last m y ys g.rest e ∙ sym (not-raw (no-long (name_of t) (omega (arith, reaches m y ys g (letter-byte y l), name-length)))))
+      (λ l. last m y ys g.rest e ∙ sym (not-raw (no-long (nameOf t) (omega (arith, reaches m y ys g (letter-byte y l), name-length)))))
       (λ l. last m y ys g.rest e ∙ sym (other-is m y ys g e l)))
   rawEnd-is (suc n) m (y ∷ ys) k g =
       split (eqb y (byte ">")) (λ e. at-end-mark (suc n) m y ys g e)
       (λ e. split (isLetter y)
-      (λ l. asks n m y ys g.rest e l ∙ rawEnd-is n (suc m) ys (omega arith) (goes_on m y ys g (letter-byte y l)))
+      (λ l. asks n m y ys g.rest e l ∙ rawEnd-is n (suc m) ys (omega arith) (goes-on m y ys g (letter-byte y l)))
       (λ l. denies (suc n) m y ys g.rest e l ∙ sym (other-is m y ys g e l)))
 
   pub raw-end-is : rawEndOf 8 t 0 ≡ whole t
@@ -187,15 +187,15 @@ module _ (line : List ℕ) (i : ℕ) where
   pub no-slash-left : i < length line → length line ≤ i + 1 → isRawEnd (drop i line) ≡ false
   no-slash-left h l = rw (suffix-in line i h, suffix-out line (i + 1) l) (split (eqb (get_or line i 0) (byte "<")) (λ e. rw e) (λ e. rw e))
 
-  pub no_slash : i + 1 < length line → (get_or line (i + 1) 0 ≡ byte "/" → ⊥) → isRawEnd (drop i line) ≡ false
-  no_slash h e = let l : i < length line = omega arith in rw (suffix-in line i l, suffix-in line (i + 1) h, ne_eqb (get_or line (i + 1) 0) (byte "/") e) (split (eqb (get_or line i 0) (byte "<")) (λ k. rw k) (λ k. rw k))
+  pub no-slash : i + 1 < length line → (get_or line (i + 1) 0 ≡ byte "/" → ⊥) → isRawEnd (drop i line) ≡ false
+  no-slash h e = let l : i < length line = omega arith in rw (suffix-in line i l, suffix-in line (i + 1) h, ne_eqb (get_or line (i + 1) 0) (byte "/") e) (split (eqb (get_or line i 0) (byte "<")) (λ k. rw k) (λ k. rw k))
 
-  pub raw_at : i + 1 < length line → get_or line i 0 ≡ byte "<" → get_or line (i + 1) 0 ≡ byte "/" → rawEndOf 8 (drop (i + 1 + 1) line) 0 ≡ isRawEnd (drop i line)
-  raw_at h a b = let l : i < length line = omega arith in rw (suffix-in line i l, suffix-in line (i + 1) h, a, b) (raw-end-is (drop (i + 1 + 1) line))
+  pub raw-at : i + 1 < length line → get_or line i 0 ≡ byte "<" → get_or line (i + 1) 0 ≡ byte "/" → rawEndOf 8 (drop (i + 1 + 1) line) 0 ≡ isRawEnd (drop i line)
+  raw-at h a b = let l : i < length line = omega arith in rw (suffix-in line i l, suffix-in line (i + 1) h, a, b) (raw-end-is (drop (i + 1 + 1) line))
 
 -- ---- no raw end tag begins at another byte than `<`
 no-tag : (x : ℕ) (xs : List ℕ) → isInner (byte "<") x ≡ true → isRawEnd (x ∷ xs) ≡ false
-no-tag x xs h = rw (or_left (eqb x (byte "<")) (isLineEndingByte x) (not-true _ h))
+no-tag x xs h = rw (or-left (eqb x (byte "<")) (isLineEndingByte x) (not-true _ h))
 
 pub raw-end-behind : (line : List ℕ) (i j : ℕ) → j ≡ i + run (isInner (byte "<")) (drop i line) → firstFrom isRawEnd line i ≡ firstFrom isRawEnd line j
 raw-end-behind = first-behind (isInner (byte "<")) isRawEnd no-tag

@@ -1,7 +1,7 @@
 -- What the answers of the block scan say, by 01's numbers and values for each case.
 use Rattle.std.specs.Prelude.{ℕ}
 use Rattle.lexical.specs.Name.{unnamed}
-use Rattle.rules.specs.Scan.{found, BlockAnswer, foundBlock, no_block, refusedBlock}
+use Rattle.rules.specs.Scan.{found, BlockAnswer, foundBlock, noBlock, refusedBlock}
 use Rattle.flow.specs.declared.html_flow.Kind.{Kind}
 use Rattle.flow.specs.declared.html_flow.Kind.TheVariants.{Raw, Comment, Instruction, Declaration, Cdata, Basic, Complete}
 use Rattle.flow.specs.declared.html_flow.Opening.{Opening}
@@ -32,5 +32,5 @@ openingName (Opens kind name) = name
 -- found with kind, name, stop, whether a closer was met and where it begins; none; a refusal with its number
 abbrev pub blockAnswerOf : Block → BlockAnswer
 blockAnswerOf (Found b) = foundBlock (found (kindNumber b.kind) b.name b.stop b.closed b.closer)
-blockAnswerOf Missing = no_block
+blockAnswerOf Missing = noBlock
 blockAnswerOf (Refused refusal) = refusedBlock refusal

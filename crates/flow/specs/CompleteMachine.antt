@@ -9,26 +9,26 @@ use Rattle.flow.specs.declared.tokenizer.StateName.TheVariants.{CompleteClosingT
 use Rattle.flow.specs.declared.tokenizer.State.{State}
 use Rattle.flow.specs.declared.tokenizer.State.TheVariants.{Next, Ok, Nok}
 
-unfoldable pub end_of : ℕ → State
-end_of b = pick (eqb b (byte ">")) (Next CompleteAfter) Nok
+unfoldable pub endOf : ℕ → State
+endOf b = pick (eqb b (byte ">")) (Next CompleteAfter) Nok
 
-unfoldable pub after_of : ℕ → State
-after_of b = pick (isSpaceOrTab b) (Next CompleteAfter) (pick (isLineEndingByte b) Ok Nok)
+unfoldable pub afterOf : ℕ → State
+afterOf b = pick (isSpaceOrTab b) (Next CompleteAfter) (pick (isLineEndingByte b) Ok Nok)
 
 unfoldable pub closingTagAfterOf : ℕ → State
-closingTagAfterOf b = pick (isWhitespace b) (Next CompleteClosingTagAfter) (end_of b)
+closingTagAfterOf b = pick (isWhitespace b) (Next CompleteClosingTagAfter) (endOf b)
 
 unfoldable pub nameBeforeOf : Rules → ℕ → State
 nameBeforeOf ρ b =
     pick (isWhitespace b) (Next CompleteAttributeNameBefore)
-    (pick (eqb b (byte "/")) (Next CompleteEnd) (pick (isNameStart ρ.f2 b) (Next CompleteAttributeName) (end_of b)))
+    (pick (eqb b (byte "/")) (Next CompleteEnd) (pick (isNameStart ρ.f2 b) (Next CompleteAttributeName) (endOf b)))
 
 unfoldable pub nameAfterOf : Rules → ℕ → State
 nameAfterOf ρ b =
     pick (isWhitespace b) (Next CompleteAttributeNameAfter) (pick (eqb b (byte "=")) (Next CompleteAttributeValueBefore) (nameBeforeOf ρ b))
 
-unfoldable pub name_of : Rules → ℕ → State
-name_of ρ b = pick (isAttributeNameByte b) (Next CompleteAttributeName) (nameAfterOf ρ b)
+unfoldable pub nameOf : Rules → ℕ → State
+nameOf ρ b = pick (isAttributeNameByte b) (Next CompleteAttributeName) (nameAfterOf ρ b)
 
 unfoldable pub valueQuotedOf : ℕ → ℕ → State
 valueQuotedOf m b = pick (eqb b m) (Next CompleteAttributeValueQuotedAfter) (Next (CompleteAttributeValueQuoted m))
@@ -45,17 +45,17 @@ valueBeforeOf ρ b =
     pick (isWhitespace b) (Next CompleteAttributeValueBefore)
     (pick (isQuote b) (Next (CompleteAttributeValueQuoted b)) (pick (isValueExcluded b) Nok (valueUnquotedOf ρ b)))
 
-abbrev pub step_of : Rules → StateName → ℕ → State
-step_of ρ CompleteClosingTagAfter b = closingTagAfterOf b
-step_of ρ CompleteAttributeNameBefore b = nameBeforeOf ρ b
-step_of ρ CompleteAttributeName b = name_of ρ b
-step_of ρ CompleteAttributeNameAfter b = nameAfterOf ρ b
-step_of ρ CompleteAttributeValueBefore b = valueBeforeOf ρ b
-step_of ρ (CompleteAttributeValueQuoted m) b = valueQuotedOf m b
-step_of ρ CompleteAttributeValueQuotedAfter b = valueQuotedAfterOf ρ b
-step_of ρ CompleteAttributeValueUnquoted b = valueUnquotedOf ρ b
-step_of ρ CompleteEnd b = end_of b
-step_of ρ CompleteAfter b = after_of b
+abbrev pub stepOf : Rules → StateName → ℕ → State
+stepOf ρ CompleteClosingTagAfter b = closingTagAfterOf b
+stepOf ρ CompleteAttributeNameBefore b = nameBeforeOf ρ b
+stepOf ρ CompleteAttributeName b = nameOf ρ b
+stepOf ρ CompleteAttributeNameAfter b = nameAfterOf ρ b
+stepOf ρ CompleteAttributeValueBefore b = valueBeforeOf ρ b
+stepOf ρ (CompleteAttributeValueQuoted m) b = valueQuotedOf m b
+stepOf ρ CompleteAttributeValueQuotedAfter b = valueQuotedAfterOf ρ b
+stepOf ρ CompleteAttributeValueUnquoted b = valueUnquotedOf ρ b
+stepOf ρ CompleteEnd b = endOf b
+stepOf ρ CompleteAfter b = afterOf b
 
 -- the state in which a line may end
 abbrev pub accepts : StateName → Bool
@@ -75,6 +75,6 @@ follow (Next s) go = go s
 follow Ok go = true
 follow Nok go = false
 
-unfoldable pub run_of : Rules → StateName → List ℕ → Bool
-run_of ρ s [] = accepts s
-run_of ρ s (x ∷ xs) = follow (step_of ρ s x) (λ s'. run_of ρ s' xs)
+unfoldable pub runOf : Rules → StateName → List ℕ → Bool
+runOf ρ s [] = accepts s
+runOf ρ s (x ∷ xs) = follow (stepOf ρ s x) (λ s'. runOf ρ s' xs)

@@ -40,12 +40,12 @@ stays ρ Complete b = false
 unfoldable pub declarationInsideOf : Rules → Kind → ℕ → ContinuationName
 declarationInsideOf ρ κ b = pick (stays ρ κ b) ContinuationDeclarationInside (pick (eqb b (byte ">")) ContinuationClose (continuationOf κ b))
 
-abbrev pub next_of : Rules → Kind → ContinuationName → ℕ → ContinuationName
-next_of ρ κ Continuation b = continuationOf κ b
-next_of ρ κ ContinuationCommentInside b = commentInsideOf κ b
-next_of ρ κ ContinuationCdataInside b = cdataInsideOf κ b
-next_of ρ κ ContinuationDeclarationInside b = declarationInsideOf ρ κ b
-next_of ρ κ ContinuationClose b = ContinuationClose
+abbrev pub nextOf : Rules → Kind → ContinuationName → ℕ → ContinuationName
+nextOf ρ κ Continuation b = continuationOf κ b
+nextOf ρ κ ContinuationCommentInside b = commentInsideOf κ b
+nextOf ρ κ ContinuationCdataInside b = cdataInsideOf κ b
+nextOf ρ κ ContinuationDeclarationInside b = declarationInsideOf ρ κ b
+nextOf ρ κ ContinuationClose b = ContinuationClose
 
 -- a closer was met
 abbrev pub isClose : ContinuationName → Bool
@@ -87,12 +87,12 @@ closerLength Complete = 0
 unfoldable pub closedAt : Rules → Kind → ContinuationName → ℕ → List ℕ → ℕ
 closedAt ρ κ s i [] = i
 closedAt ρ κ s i (x ∷ xs) =
-    choose (isClose (next_of ρ κ s x)) (λ _. i + 1 - closerLength κ) (λ _. closedAt ρ κ (next_of ρ κ s x) (i + 1) xs)
+    choose (isClose (nextOf ρ κ s x)) (λ _. i + 1 - closerLength κ) (λ _. closedAt ρ κ (nextOf ρ κ s x) (i + 1) xs)
 
 -- whether there is one
 unfoldable pub meetsOf : Rules → Kind → ContinuationName → List ℕ → Bool
 meetsOf ρ κ s [] = isClose s
-meetsOf ρ κ s (x ∷ xs) = isClose s || meetsOf ρ κ (next_of ρ κ s x) xs
+meetsOf ρ κ s (x ∷ xs) = isClose s || meetsOf ρ κ (nextOf ρ κ s x) xs
 
 -- the first m bytes of t are letters of a name, and at most n more may come before `>`
 unfoldable pub rawEndOf : ℕ → List ℕ → ℕ → Bool

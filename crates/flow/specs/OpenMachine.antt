@@ -6,7 +6,7 @@ use Rattle.lexical.specs.Byte.{isLetter, isWhitespace, isNameBreak}
 use Rattle.lexical.specs.Name.{isBlockName, isRawName, blockPlace}
 use Rattle.rules.specs.Search.{choose, begins, past, exactly}
 use Rattle.rules.specs.Tag.{blockTags, attributes}
-use Rattle.rules.specs.Block.{name_of, afterName, fillsLine, mayStart, place_in}
+use Rattle.rules.specs.Block.{nameOf, afterName, fillsLine, mayStart, placeIn}
 use Rattle.rules.specs.declared.Rules.{Rules}
 use Rattle.flow.specs.Answer.{openingNumber, openingName}
 use Rattle.flow.specs.declared.html_flow.Opening.{Opening}
@@ -45,19 +45,19 @@ declarationOpenOf s =
 
 -- behind `</`, and behind `<`
 unfoldable pub tagCloseStartOf : Rules → ℕ → List ℕ → ℕ
-tagCloseStartOf ρ f s = choose (isLetter (first s)) (λ _. tagNameOf ρ f true (name_of s) (afterName s)) (λ _. 0)
+tagCloseStartOf ρ f s = choose (isLetter (first s)) (λ _. tagNameOf ρ f true (nameOf s) (afterName s)) (λ _. 0)
 
 unfoldable pub openOf : Rules → ℕ → List ℕ → ℕ
 openOf ρ f s =
     choose (begins (bytes "!") s) (λ _. declarationOpenOf (drop 1 s))
     (λ _. choose (begins (bytes "/") s) (λ _. tagCloseStartOf ρ f (drop 1 s))
     (λ _. choose (begins (bytes "?") s) (λ _. 3)
-    (λ _. choose (isLetter (first s)) (λ _. tagNameOf ρ f false (name_of s) (afterName s)) (λ _. 0))))
+    (λ _. choose (isLetter (first s)) (λ _. tagNameOf ρ f false (nameOf s) (afterName s)) (λ _. 0))))
 
 -- ---- the name that an opening carries
 -- it is the place of n in the list of its kind
 abbrev pub Names : Opening → List ℕ → Type 0
-Names r n = openingName r ≡ place_in (openingNumber r) n
+Names r n = openingName r ≡ placeIn (openingNumber r) n
 
 -- its kind has no list, so this holds of every n
 abbrev pub Unnamed : Opening → Type 0

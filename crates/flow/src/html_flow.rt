@@ -2,17 +2,17 @@
 //
 // F1 lives in the states inside CDATA, F2, F4 and F5 in the complete states, F3 in `complete`, F6 in `may_start`. A `Retry` of the Rust is a call.
 ghost use Rattle.std.specs.Prelude.{◌≡◌, ◌-◌, ◌<◌, ◌≤◌, length, drop, [], ◌∷◌};
-ghost use Rattle.flow.specs.CompleteMachine.{end_of, after_of, closingTagAfterOf, nameBeforeOf, nameAfterOf, name_of, valueQuotedOf, valueQuotedAfterOf, valueUnquotedOf, valueBeforeOf};
+ghost use Rattle.flow.specs.CompleteMachine.{endOf, afterOf, closingTagAfterOf, nameBeforeOf, nameAfterOf, nameOf, valueQuotedOf, valueQuotedAfterOf, valueUnquotedOf, valueBeforeOf};
 ghost use Rattle.rules.specs.Search.{before as standsBefore};
 ghost use Rattle.rules.specs.Block.{isRawEnd, beforeCloser, closes};
 ghost use Rattle.flow.specs.Answer.{kindNumber};
-ghost use Rattle.flow.specs.ContinuationMachine.{continuationOf, commentInsideOf, cdataInsideOf, stays, declarationInsideOf, next_of, isClose, isContinuation, closerStart, closerLength, closedAt, rawEndOf};
+ghost use Rattle.flow.specs.ContinuationMachine.{continuationOf, commentInsideOf, cdataInsideOf, stays, declarationInsideOf, nextOf, isClose, isContinuation, closerStart, closerLength, closedAt, rawEndOf};
 ghost use Rattle.flow.specs.declared.html_flow.ContinuationName.TheVariants.{Continuation, ContinuationClose};
 ghost use Rattle.lexical.specs.Text.{byte};
 ghost use Rattle.lexical.specs.Name.{cdataPrefix};
 ghost use Rattle.rules.specs.Search.{begins};
-ghost use Rattle.rules.specs.Lines.{line as line_of};
-ghost use Rattle.rules.specs.Block.{name_of as tagNameIn, afterName, mayStart, kind_at, kind_of, tagName, place_of};
+ghost use Rattle.rules.specs.Lines.{line as lineOf};
+ghost use Rattle.rules.specs.Block.{nameOf as tagNameIn, afterName, mayStart, kindAt, kindOf, tagName, placeOf};
 ghost use Rattle.flow.specs.Answer.{openingNumber, openingName, blockAnswerOf};
 ghost use Rattle.rules.specs.Block.{endsBefore};
 ghost use Rattle.rules.specs.Scan.{found, foundBlock};
@@ -73,7 +73,7 @@ pub(crate) fn complete_attribute_name_before(rules: Rules, b: u8) -> State
 //     <a :b>
 //         ^
 pub(crate) fn complete_attribute_name(rules: Rules, b: u8) -> State
-    ensures { result ≡ name_of rules b }
+    ensures { result ≡ nameOf rules b }
 {
     if is_attribute_name_byte(b) {
         State::Next(StateName::CompleteAttributeName)
@@ -167,7 +167,7 @@ pub(crate) fn complete_attribute_value_quoted_after(rules: Rules, b: u8) -> Stat
 //     <a b="c">
 //             ^
 pub(crate) fn complete_end(b: u8) -> State
-    ensures { result ≡ end_of b }
+    ensures { result ≡ endOf b }
 {
     match b {
         b'>' => State::Next(StateName::CompleteAfter),
@@ -180,7 +180,7 @@ pub(crate) fn complete_end(b: u8) -> State
 //     <x>
 //        ^
 pub(crate) fn complete_after(b: u8) -> State
-    ensures { result ≡ after_of b }
+    ensures { result ≡ afterOf b }
 {
     if is_space_or_tab(b) {
         State::Next(StateName::CompleteAfter)
@@ -349,7 +349,7 @@ pub fn continuation_step(
     name: ContinuationName,
     b: u8,
 ) -> ContinuationName
-    ensures { result ≡ next_of rules kind name b }
+    ensures { result ≡ nextOf rules kind name b }
 {
     match name {
         ContinuationName::Continuation => continuation(kind, b),
@@ -732,7 +732,7 @@ fn open(rules: Rules, line: &[u8], at: usize, flag: u8) -> Opening
 //       <x>
 //       ^
 fn before(rules: Rules, line: &[u8], at: usize, flag: u8) -> Opening
-    ensures result_value { openingNumber result ≡ kind_at rules flag (drop at line.now) }
+    ensures result_value { openingNumber result ≡ kindAt rules flag (drop at line.now) }
     ensures names { Names result (tagName (drop at line.now)) }
 {
     if at >= line.len() {
@@ -749,8 +749,8 @@ fn before(rules: Rules, line: &[u8], at: usize, flag: u8) -> Opening
 //       <x>
 //     ^
 pub(crate) fn start(rules: Rules, line: &[u8], flag: u8) -> Opening
-    ensures result_value { openingNumber result ≡ kind_of rules (line_of flag [] line.now) }
-    ensures result_value_2 { openingName result ≡ place_of (openingNumber result) (line_of flag [] line.now) }
+    ensures result_value { openingNumber result ≡ kindOf rules (lineOf flag [] line.now) }
+    ensures result_value_2 { openingName result ≡ placeOf (openingNumber result) (lineOf flag [] line.now) }
 {
     let indent = inside(line, 0);
     if indent > 3 {
@@ -801,7 +801,7 @@ fn blank_line_before(kind: Kind, line: &[u8]) -> bool
 
 // Whether a block ends in front of a line.
 fn ends_before(kind: Kind, flag: u8, line: &[u8]) -> bool
-    ensures { result ≡ endsBefore (kindNumber kind) (line_of flag [] line.now) }
+    ensures { result ≡ endsBefore (kindNumber kind) (lineOf flag [] line.now) }
 {
     is_lazy(flag) | blank_line_before(kind, line)
 }

@@ -2,9 +2,9 @@
 ghost use Rattle.std.specs.Prelude.{◌≡◌, leb, drop};
 ghost use Rattle.lexical.specs.Name.{all};
 ghost use Rattle.rules.specs.Reading.{crate as ofCrate, standard};
-ghost use Rattle.rules.specs.Lines.{lines_of};
+ghost use Rattle.rules.specs.Lines.{linesOf};
 ghost use Rattle.rules.specs.Refusal.{bulletinRefusal};
-ghost use Rattle.rules.specs.Scan.{block_of, blockScan};
+ghost use Rattle.rules.specs.Scan.{blockOf, blockScan};
 ghost use Rattle.flow.specs.Answer.{blockAnswerOf};
 
 use crate::html_flow::{
@@ -79,7 +79,7 @@ pub fn bulletin_refusal(bulletin: &[u8], flags: &[u8]) -> u8
 // line and know the number of each, as withholding does: an index that is a line's first byte, and a flag for each line. Elsewhere it reads on as if a line
 // began at the index, and takes a line without a flag as one with flag 0.
 pub fn block_at(rules: Rules, bulletin: &[u8], flags: &[u8], index: usize, line: usize) -> Block
-    ensures { blockAnswerOf result ≡ block_of rules index (lines_of (drop line flags.now) (drop index bulletin.now)) }
+    ensures { blockAnswerOf result ≡ blockOf rules index (linesOf (drop line flags.now) (drop index bulletin.now)) }
 {
     // Most lines are passed over here, without looking for their end.
     if peek(bulletin, space_or_tab_end(bulletin, index)) != 60 {

@@ -1,6 +1,6 @@
 // tokenizer.rs: the names of the complete states, the step that calls a state's function, and the run over what is left of a line.
 ghost use Rattle.std.specs.Prelude.{◌≡◌, drop};
-ghost use Rattle.flow.specs.CompleteMachine.{step_of, accepts, run_of};
+ghost use Rattle.flow.specs.CompleteMachine.{stepOf, accepts, runOf};
 
 use crate::html_flow;
 use rules::Rules;
@@ -30,7 +30,7 @@ pub enum State {
 
 // The state's function on the byte.
 fn step(rules: Rules, state: StateName, b: u8) -> State
-    ensures { result ≡ step_of rules state b }
+    ensures { result ≡ stepOf rules state b }
 {
     match state {
         StateName::CompleteClosingTagAfter => html_flow::complete_closing_tag_after(b),
@@ -74,7 +74,7 @@ fn may_end(state: StateName) -> bool
 
 // From a state at an index to the end of the line.
 pub(crate) fn run(rules: Rules, line: &[u8], from: usize, start: StateName) -> bool
-    ensures { result ≡ run_of rules start (drop from line.now) }
+    ensures { result ≡ runOf rules start (drop from line.now) }
 {
     let mut state = start;
     let mut index = from;

@@ -2,7 +2,7 @@
 -- number, zero counts, stops and closers, no name, and the carry passed in.
 use Rattle.std.specs.Prelude.{ℕ, Bool, true, false}
 use Rattle.lexical.specs.Name.{unnamed}
-use Rattle.rules.specs.Scan.{InlineAnswer, foundInline, noInline, refusedInline, BlockAnswer, foundBlock, no_block, refusedBlock}
+use Rattle.rules.specs.Scan.{InlineAnswer, foundInline, noInline, refusedInline, BlockAnswer, foundBlock, noBlock, refusedBlock}
 use Rattle.rules.specs.Trace.{Record, eventRecord, lastRecord, refusedRecord}
 use Rattle.rules.specs.Withhold.{Shown, shows, refusedShown}
 use Rattle.rules.specs.Output.{Wrote, wrote, refusedWrite}
@@ -19,7 +19,7 @@ flag false = 0
 
 abbrev pub blockResult : BlockAnswer → BlockResult
 blockResult (foundBlock b) = record { refusal = 0; kind = b.kind; closed = flag b.closed; name = b.name; stop = b.stop; closer = b.closer }
-blockResult no_block = record { refusal = 0; kind = 0; closed = 0; name = unnamed; stop = 0; closer = 0 }
+blockResult noBlock = record { refusal = 0; kind = 0; closed = 0; name = unnamed; stop = 0; closer = 0 }
 blockResult (refusedBlock n) = record { refusal = n; kind = 0; closed = 0; name = unnamed; stop = 0; closer = 0 }
 
 abbrev pub inlineResult : InlineAnswer → InlineResult

@@ -11,7 +11,7 @@ use Rattle.lexical.specs.Text.{byte, first, run}
 use Rattle.lexical.specs.Byte.{isSpaceOrTab, isLineEndingByte}
 use Rattle.lexical.specs.Line.{endsLine, lineLength}
 use Rattle.lexical.proofs.Suffix.{suffix-next}
-use Rattle.lexical.proofs.Cases.{or_left, or_right}
+use Rattle.lexical.proofs.Cases.{or-left, or-right}
 use Rattle.rules.specs.Search.{past, somewhere}
 use Rattle.rules.specs.Refusal.{blankFollows}
 use Rattle.rules.proofs.Past.{past-run, somewhere-behind}
@@ -33,7 +33,7 @@ module _ (text : List ℕ) (i : ℕ) where
 content-no : (x : ℕ) (xs : List ℕ) → not (isLineEndingByte x) ≡ true → blankFollows (x ∷ xs) ≡ false
 unfolding blankFollows endsLine
 content-no x xs h =
-    let n = not-true _ h in rw (or_left (eqb x (byte "\n")) (eqb x (byte "\r")) n, or_right (eqb x (byte "\n")) (eqb x (byte "\r")) n)
+    let n = not-true _ h in rw (or-left (eqb x (byte "\n")) (eqb x (byte "\r")) n, or-right (eqb x (byte "\n")) (eqb x (byte "\r")) n)
 
 pub blank-behind : (text : List ℕ) (i j : ℕ) → j ≡ i + lineLength (drop i text) → somewhere blankFollows (drop i text) ≡ somewhere blankFollows (drop j text)
 blank-behind = somewhere-behind (λ b. not (isLineEndingByte b)) blankFollows content-no

@@ -9,16 +9,16 @@ use lib.ListN.{drop}
 use borrow.Author.Tests.{not-true}
 use Rattle.lexical.specs.Byte.{isLineEndingByte}
 use Rattle.lexical.specs.Line.{isInner}
-use Rattle.lexical.proofs.Cases.{split, clash, or_left}
+use Rattle.lexical.proofs.Cases.{split, clash, or-left}
 use Rattle.lexical.proofs.Run.{behind-at}
 use Rattle.rules.specs.declared.Rules.{Rules}
-use Rattle.html.specs.TextMachine.{bodyMark, bodyLength, step_of, run_of, commentOf, cdataOf, declarationOf, instructionOf, valueQuotedOf}
+use Rattle.html.specs.TextMachine.{bodyMark, bodyLength, stepOf, runOf, commentOf, cdataOf, declarationOf, instructionOf, valueQuotedOf}
 use Rattle.html.specs.declared.tokenizer.StateName.{StateName}
 use Rattle.html.specs.declared.tokenizer.StateName.TheVariants.{Start, Open, DeclarationOpen, CommentOpenInside, Comment, CommentClose, CommentEnd, CdataOpenInside, Cdata, CdataClose, CdataEnd, Declaration, Instruction, InstructionClose, TagCloseStart, TagClose, TagCloseBetween, TagOpen, TagOpenBetween, TagOpenAttributeName, TagOpenAttributeNameAfter, TagOpenAttributeValueBefore, TagOpenAttributeValueQuoted, TagOpenAttributeValueQuotedAfter, TagOpenAttributeValueUnquoted, End}
 use Rattle.html.specs.declared.tokenizer.State.TheVariants.{Next}
 
 -- a byte that is not the mark
-stays : (ρ : Rules) (st : StateName) (k b : ℕ) → eqb (bodyMark st) 0 ≡ false → eqb b (bodyMark st) ≡ false → step_of ρ st k b ≡ Next st k
+stays : (ρ : Rules) (st : StateName) (k b : ℕ) → eqb (bodyMark st) 0 ≡ false → eqb b (bodyMark st) ≡ false → stepOf ρ st k b ≡ Next st k
 unfolding commentOf cdataOf declarationOf instructionOf valueQuotedOf
 stays ρ Start k b h e = clash _ refl h
 stays ρ Open k b h e = clash _ refl h
@@ -49,12 +49,12 @@ stays ρ End k b h e = clash _ refl h
 
 -- the run, behind such bytes
 module _ (ρ : Rules) (st : StateName) (k : ℕ) where
-  passed : eqb (bodyMark st) 0 ≡ false → (x : ℕ) (xs : List ℕ) → isInner (bodyMark st) x ≡ true → run_of ρ st k (x ∷ xs) ≡ run_of ρ st k xs
-  unfolding run_of
-  passed h x xs e = rw (stays ρ st k x h (or_left (eqb x (bodyMark st)) (isLineEndingByte x) (not-true _ e)))
+  passed : eqb (bodyMark st) 0 ≡ false → (x : ℕ) (xs : List ℕ) → isInner (bodyMark st) x ≡ true → runOf ρ st k (x ∷ xs) ≡ runOf ρ st k xs
+  unfolding runOf
+  passed h x xs e = rw (stays ρ st k x h (or-left (eqb x (bodyMark st)) (isLineEndingByte x) (not-true _ e)))
 
-  pub body-behind : (s : List ℕ) (i j : ℕ) → j ≡ i + bodyLength (bodyMark st) (drop i s) → run_of ρ st k (drop i s) ≡ run_of ρ st k (drop j s)
+  pub body-behind : (s : List ℕ) (i j : ℕ) → j ≡ i + bodyLength (bodyMark st) (drop i s) → runOf ρ st k (drop i s) ≡ runOf ρ st k (drop j s)
   body-behind s i j e =
       split (eqb (bodyMark st) 0)
-      (λ h. let n : j ≡ i = (rw h at e) ∙ omega arith in ap (λ n. run_of ρ st k (drop n s)) (sym n))
-      (λ h. behind-at (isInner (bodyMark st)) (run_of ρ st k) (passed h) s i j (rw h at e))
+      (λ h. let n : j ≡ i = (rw h at e) ∙ omega arith in ap (λ n. runOf ρ st k (drop n s)) (sym n))
+      (λ h. behind-at (isInner (bodyMark st)) (runOf ρ st k) (passed h) s i j (rw h at e))

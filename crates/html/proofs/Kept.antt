@@ -11,14 +11,14 @@ use Rattle.rules.specs.Search.{choose}
 use Rattle.rules.specs.Inline.{Read, takes, lacks, keeping, rawHtml, readInline}
 use Rattle.rules.specs.Scan.{InlineAnswer, inlineAnswer, inlineAt}
 use Rattle.rules.specs.declared.Rules.{Rules}
-use Rattle.html.specs.TextMachine.{run_of}
+use Rattle.html.specs.TextMachine.{runOf}
 use Rattle.html.specs.Answer.{carryingOf}
 use Rattle.html.specs.declared.tokenizer.StateName.TheVariants.{Start}
-use Rattle.html.proofs.TextMeans.{start_is}
+use Rattle.html.proofs.TextMeans.{start-is}
 
-pub pick_out : (f : ℕ → InlineAnswer) (b : Bool) (x y : ℕ) → f (pick b x y) ≡ pick b (f x) (f y)
-pick_out f true x y = refl
-pick_out f false x y = refl
+pub pick-out : (f : ℕ → InlineAnswer) (b : Bool) (x y : ℕ) → f (pick b x y) ≡ pick b (f x) (f y)
+pick-out f true x y = refl
+pick-out f false x y = refl
 
 kept-answer : (n k : ℕ) (r : Read) → carryingOf k (inlineAnswer n r) ≡ inlineAnswer n (keeping k r)
 kept-answer n k (takes s c) = refl
@@ -34,19 +34,19 @@ module _ (ρ : Rules) (k : ℕ) (s : List ℕ) where
   read-without t = ap (λ b. choose b (λ _. rawHtml ρ k s) (λ _. keeping k (rawHtml ρ 0 s))) t
 
 module _ (ρ : Rules) (text : List ℕ) (i k : ℕ) where
-  pub with-carry : ρ.t2 ≡ true → k ≤ 5 → inlineAnswer (length text) (run_of ρ Start k (drop i text)) ≡ inlineAt ρ text i k
+  pub with-carry : ρ.t2 ≡ true → k ≤ 5 → inlineAnswer (length text) (runOf ρ Start k (drop i text)) ≡ inlineAt ρ text i k
   unfolding inlineAt
-  with-carry t h = ap (inlineAnswer (length text)) (start_is ρ (drop i text) k (omega arith) ∙ sym (read-with ρ k (drop i text) t))
+  with-carry t h = ap (inlineAnswer (length text)) (start-is ρ (drop i text) k (omega arith) ∙ sym (read-with ρ k (drop i text) t))
 
-  without-carry : ρ.t2 ≡ false → carryingOf k (inlineAnswer (length text) (run_of ρ Start 0 (drop i text))) ≡ inlineAt ρ text i k
+  without-carry : ρ.t2 ≡ false → carryingOf k (inlineAnswer (length text) (runOf ρ Start 0 (drop i text))) ≡ inlineAt ρ text i k
   unfolding inlineAt
   without-carry t =
-      kept-answer (length text) k (run_of ρ Start 0 (drop i text))
-      ∙ ap (inlineAnswer (length text)) (ap (keeping k) (start_is ρ (drop i text) 0 (omega arith)) ∙ sym (read-without ρ k (drop i text) t))
+      kept-answer (length text) k (runOf ρ Start 0 (drop i text))
+      ∙ ap (inlineAnswer (length text)) (ap (keeping k) (start-is ρ (drop i text) 0 (omega arith)) ∙ sym (read-without ρ k (drop i text) t))
 
   -- the answer of the run from a size
   abbrev answer : ℕ → InlineAnswer
-  answer size = inlineAnswer (length text) (run_of ρ Start size (drop i text))
+  answer size = inlineAnswer (length text) (runOf ρ Start size (drop i text))
 
   -- with T2 the size is the carry, without it 0; a is what the run from the size answers
   pub either-carry : (size : ℕ) (a : InlineAnswer) → a ≡ answer size → size ≡ pick ρ.t2 k 0 → k ≤ 5 → pick ρ.t2 a (carryingOf k a) ≡ inlineAt ρ text i k

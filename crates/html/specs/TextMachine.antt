@@ -12,8 +12,8 @@ use Rattle.html.specs.declared.tokenizer.StateName.TheVariants.{Start, Open, Dec
 use Rattle.html.specs.declared.tokenizer.State.{State}
 use Rattle.html.specs.declared.tokenizer.State.TheVariants.{Next, Ok, Nok}
 
-unfoldable pub start_of : ℕ → ℕ → State
-start_of k b = pick (eqb b (byte "<")) (Next Open k) Nok
+unfoldable pub startOf : ℕ → ℕ → State
+startOf k b = pick (eqb b (byte "<")) (Next Open k) Nok
 
 unfoldable pub openOf : ℕ → ℕ → State
 openOf k b =
@@ -24,8 +24,8 @@ unfoldable pub declarationOpenOf : ℕ → ℕ → State
 declarationOpenOf k b =
     pick (eqb b (byte "-")) (Next CommentOpenInside k) (pick (eqb b (byte "[")) (Next CdataOpenInside k) (pick (isLetter b) (Next Declaration k) Nok))
 
-unfoldable pub end_of : ℕ → State
-end_of b = pick (eqb b (byte ">")) Ok Nok
+unfoldable pub endOf : ℕ → State
+endOf b = pick (eqb b (byte ">")) Ok Nok
 
 unfoldable pub commentOpenInsideOf : ℕ → ℕ → State
 commentOpenInsideOf k b = pick (eqb b (byte "-")) (Next CommentEnd k) Nok
@@ -37,7 +37,7 @@ unfoldable pub commentCloseOf : ℕ → ℕ → State
 commentCloseOf k b = pick (eqb b (byte "-")) (Next CommentEnd k) (commentOf k b)
 
 unfoldable pub commentEndOf : ℕ → ℕ → State
-commentEndOf k b = pick (eqb b (byte ">")) (end_of b) (pick (eqb b (byte "-")) (commentCloseOf k b) (commentOf k b))
+commentEndOf k b = pick (eqb b (byte ">")) (endOf b) (pick (eqb b (byte "-")) (commentCloseOf k b) (commentOf k b))
 
 -- n letters of the prefix are counted, k of them before: no more, or all, or so many
 abbrev pub cdataCounted : ℕ → ℕ → State
@@ -53,16 +53,16 @@ unfoldable pub cdataCloseOf : ℕ → ℕ → State
 cdataCloseOf k b = pick (eqb b (byte "]")) (Next CdataEnd k) (cdataOf k b)
 
 unfoldable pub cdataEndOf : ℕ → ℕ → State
-cdataEndOf k b = pick (eqb b (byte ">")) (end_of b) (pick (eqb b (byte "]")) (cdataCloseOf k b) (cdataOf k b))
+cdataEndOf k b = pick (eqb b (byte ">")) (endOf b) (pick (eqb b (byte "]")) (cdataCloseOf k b) (cdataOf k b))
 
 unfoldable pub declarationOf : ℕ → ℕ → State
-declarationOf k b = pick (eqb b (byte ">")) (end_of b) (Next Declaration k)
+declarationOf k b = pick (eqb b (byte ">")) (endOf b) (Next Declaration k)
 
 unfoldable pub instructionOf : ℕ → ℕ → State
 instructionOf k b = pick (eqb b (byte "?")) (Next InstructionClose k) (Next Instruction k)
 
 unfoldable pub instructionCloseOf : ℕ → ℕ → State
-instructionCloseOf k b = pick (eqb b (byte ">")) (end_of b) (instructionOf k b)
+instructionCloseOf k b = pick (eqb b (byte ">")) (endOf b) (instructionOf k b)
 
 unfoldable pub tagCloseStartOf : ℕ → ℕ → State
 tagCloseStartOf k b = pick (isLetter b) (Next TagClose k) Nok
@@ -72,14 +72,14 @@ abbrev pub spaced : ℕ → State → State → State
 spaced b stay go = pick (isLineEndingByte b) stay (pick (isSpaceOrTab b) stay go)
 
 unfoldable pub tagCloseBetweenOf : ℕ → ℕ → State
-tagCloseBetweenOf k b = spaced b (Next TagCloseBetween k) (end_of b)
+tagCloseBetweenOf k b = spaced b (Next TagCloseBetween k) (endOf b)
 
 unfoldable pub tagCloseOf : ℕ → ℕ → State
 tagCloseOf k b = pick (isTagNameByte b) (Next TagClose k) (tagCloseBetweenOf k b)
 
 unfoldable pub tagOpenBetweenOf : ℕ → ℕ → State
 tagOpenBetweenOf k b =
-    spaced b (Next TagOpenBetween k) (pick (eqb b (byte "/")) (Next End k) (pick (isAttributeNameStart b) (Next TagOpenAttributeName k) (end_of b)))
+    spaced b (Next TagOpenBetween k) (pick (eqb b (byte "/")) (Next End k) (pick (isAttributeNameStart b) (Next TagOpenAttributeName k) (endOf b)))
 
 unfoldable pub tagOpenOf : ℕ → ℕ → State
 tagOpenOf k b = pick (isTagNameByte b) (Next TagOpen k) (pick (isTagBreak b) (tagOpenBetweenOf k b) Nok)
@@ -105,33 +105,33 @@ valueQuotedAfterOf k b = pick (isTagBreak b) (tagOpenBetweenOf k b) Nok
 unfoldable pub valueUnquotedOf : Rules → ℕ → ℕ → State
 valueUnquotedOf ρ k b = pick (isValueEnd ρ.t1 b) (valueQuotedAfterOf k b) (Next TagOpenAttributeValueUnquoted k)
 
-abbrev pub step_of : Rules → StateName → ℕ → ℕ → State
-step_of ρ Start k b = start_of k b
-step_of ρ Open k b = openOf k b
-step_of ρ DeclarationOpen k b = declarationOpenOf k b
-step_of ρ CommentOpenInside k b = commentOpenInsideOf k b
-step_of ρ Comment k b = commentOf k b
-step_of ρ CommentClose k b = commentCloseOf k b
-step_of ρ CommentEnd k b = commentEndOf k b
-step_of ρ CdataOpenInside k b = cdataOpenInsideOf k b
-step_of ρ Cdata k b = cdataOf k b
-step_of ρ CdataClose k b = cdataCloseOf k b
-step_of ρ CdataEnd k b = cdataEndOf k b
-step_of ρ Declaration k b = declarationOf k b
-step_of ρ Instruction k b = instructionOf k b
-step_of ρ InstructionClose k b = instructionCloseOf k b
-step_of ρ TagCloseStart k b = tagCloseStartOf k b
-step_of ρ TagClose k b = tagCloseOf k b
-step_of ρ TagCloseBetween k b = tagCloseBetweenOf k b
-step_of ρ TagOpen k b = tagOpenOf k b
-step_of ρ TagOpenBetween k b = tagOpenBetweenOf k b
-step_of ρ TagOpenAttributeName k b = attributeNameOf k b
-step_of ρ TagOpenAttributeNameAfter k b = attributeNameAfterOf k b
-step_of ρ TagOpenAttributeValueBefore k b = valueBeforeOf k b
-step_of ρ (TagOpenAttributeValueQuoted m) k b = valueQuotedOf m k b
-step_of ρ TagOpenAttributeValueQuotedAfter k b = valueQuotedAfterOf k b
-step_of ρ TagOpenAttributeValueUnquoted k b = valueUnquotedOf ρ k b
-step_of ρ End k b = end_of b
+abbrev pub stepOf : Rules → StateName → ℕ → ℕ → State
+stepOf ρ Start k b = startOf k b
+stepOf ρ Open k b = openOf k b
+stepOf ρ DeclarationOpen k b = declarationOpenOf k b
+stepOf ρ CommentOpenInside k b = commentOpenInsideOf k b
+stepOf ρ Comment k b = commentOf k b
+stepOf ρ CommentClose k b = commentCloseOf k b
+stepOf ρ CommentEnd k b = commentEndOf k b
+stepOf ρ CdataOpenInside k b = cdataOpenInsideOf k b
+stepOf ρ Cdata k b = cdataOf k b
+stepOf ρ CdataClose k b = cdataCloseOf k b
+stepOf ρ CdataEnd k b = cdataEndOf k b
+stepOf ρ Declaration k b = declarationOf k b
+stepOf ρ Instruction k b = instructionOf k b
+stepOf ρ InstructionClose k b = instructionCloseOf k b
+stepOf ρ TagCloseStart k b = tagCloseStartOf k b
+stepOf ρ TagClose k b = tagCloseOf k b
+stepOf ρ TagCloseBetween k b = tagCloseBetweenOf k b
+stepOf ρ TagOpen k b = tagOpenOf k b
+stepOf ρ TagOpenBetween k b = tagOpenBetweenOf k b
+stepOf ρ TagOpenAttributeName k b = attributeNameOf k b
+stepOf ρ TagOpenAttributeNameAfter k b = attributeNameAfterOf k b
+stepOf ρ TagOpenAttributeValueBefore k b = valueBeforeOf k b
+stepOf ρ (TagOpenAttributeValueQuoted m) k b = valueQuotedOf m k b
+stepOf ρ TagOpenAttributeValueQuotedAfter k b = valueQuotedAfterOf k b
+stepOf ρ TagOpenAttributeValueUnquoted k b = valueUnquotedOf ρ k b
+stepOf ρ End k b = endOf b
 
 -- what comes of a state's answer at a byte with xs behind it: go on, or stop
 abbrev pub follow : State → ℕ → List ℕ → (StateName → ℕ → Read) → Read
@@ -139,9 +139,9 @@ follow (Next s k) c xs go = go s k
 follow Ok c xs go = takes xs c
 follow Nok c xs go = lacks c
 
-unfoldable pub run_of : Rules → StateName → ℕ → List ℕ → Read
-run_of ρ s k [] = lacks k
-run_of ρ s k (x ∷ xs) = follow (step_of ρ s k x) k xs (λ s' k'. run_of ρ s' k' xs)
+unfoldable pub runOf : Rules → StateName → ℕ → List ℕ → Read
+runOf ρ s k [] = lacks k
+runOf ρ s k (x ∷ xs) = follow (stepOf ρ s k x) k xs (λ s' k'. runOf ρ s' k' xs)
 
 -- the byte that ends the body of a state; no body: 0
 abbrev pub bodyMark : StateName → ℕ

@@ -17,7 +17,7 @@
 // scan left. A `Retry` of the Rust is a call, and the state that an attempt goes on with is a parameter.
 ghost use Rattle.std.specs.Prelude.{◌≡◌};
 ghost use Rattle.html.specs.declared.tokenizer.State.TheVariants.{Next};
-ghost use Rattle.html.specs.TextMachine.{attributeNameAfterOf, attributeNameOf, cdataCloseOf, cdataEndOf, cdataOf, cdataOpenInsideOf, commentCloseOf, commentEndOf, commentOf, commentOpenInsideOf, declarationOf, declarationOpenOf, end_of, instructionCloseOf, instructionOf, openOf, start_of, tagCloseBetweenOf, tagCloseOf, tagCloseStartOf, tagOpenBetweenOf, tagOpenOf, valueBeforeOf, valueQuotedAfterOf, valueQuotedOf, valueUnquotedOf};
+ghost use Rattle.html.specs.TextMachine.{attributeNameAfterOf, attributeNameOf, cdataCloseOf, cdataEndOf, cdataOf, cdataOpenInsideOf, commentCloseOf, commentEndOf, commentOf, commentOpenInsideOf, declarationOf, declarationOpenOf, endOf, instructionCloseOf, instructionOf, openOf, startOf, tagCloseBetweenOf, tagCloseOf, tagCloseStartOf, tagOpenBetweenOf, tagOpenOf, valueBeforeOf, valueQuotedAfterOf, valueQuotedOf, valueUnquotedOf};
 
 use crate::tokenizer::{State, StateName};
 use lexical::byte::{
@@ -32,7 +32,7 @@ use rules::Rules;
 //     a <b> c
 //       ^
 pub(crate) fn start(size: u8, b: u8) -> State
-    ensures { result ≡ start_of size b }
+    ensures { result ≡ startOf size b }
 {
     match b {
         b'<' => State::Next(StateName::Open, size),
@@ -426,7 +426,7 @@ pub(crate) fn tag_open_attribute_value_quoted_after(size: u8, b: u8) -> State
 //     a <b> c
 //         ^
 pub(crate) fn end(b: u8) -> State
-    ensures { result ≡ end_of b }
+    ensures { result ≡ endOf b }
 {
     match b {
         b'>' => State::Ok,

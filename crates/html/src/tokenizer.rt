@@ -1,7 +1,7 @@
 // tokenizer.rs: the names of the states, the step that calls a state's function, and the run of a scan.
 ghost use Rattle.std.specs.Prelude.{◌≡◌, ◌+◌, length, drop};
 ghost use Rattle.rules.specs.Scan.{inlineAnswer};
-ghost use Rattle.html.specs.TextMachine.{step_of, run_of, bodyMark, bodyLength};
+ghost use Rattle.html.specs.TextMachine.{stepOf, runOf, bodyMark, bodyLength};
 ghost use Rattle.html.specs.Answer.{inlineOf};
 
 use crate::html_text;
@@ -57,7 +57,7 @@ pub enum Inline {
 
 // The state's function on the byte.
 pub fn step(rules: Rules, state: StateName, size: u8, b: u8) -> State
-    ensures { result ≡ step_of rules state size b }
+    ensures { result ≡ stepOf rules state size b }
 {
     match state {
         StateName::Start => html_text::start(size, b),
@@ -122,7 +122,7 @@ fn body_end(text: &[u8], index: usize, state: StateName) -> usize
 
 // From a state at an index to the end of the text.
 pub(crate) fn run(rules: Rules, text: &[u8], from: usize, start: StateName, carry: u8) -> Inline
-    ensures { inlineOf result ≡ inlineAnswer (length text.now) (run_of rules start carry (drop from text.now)) }
+    ensures { inlineOf result ≡ inlineAnswer (length text.now) (runOf rules start carry (drop from text.now)) }
 {
     let mut state = start;
     let mut size = carry;

@@ -11,7 +11,7 @@ use Rattle.lexical.proofs.Readings.{tab-most}
 
 -- p can stand at the index i
 pub record Fit (i : ℕ) (p : Point) : Type 0 where
-  pub index_is : p.index ≡ i
+  pub index-is : p.index ≡ i
   pub vs-is : p.vs ≡ 0
   pub first-line : 1 ≤ p.line
   pub line-below : p.line ≤ i + 1
@@ -20,24 +20,24 @@ pub record Fit (i : ℕ) (p : Point) : Type 0 where
 
 module _ (i : ℕ) (small : i < 2 ^ 61) (p : Point) (f : Fit i p) where
   line-fits : Fit (i + 1) (nextLine p)
-  line-fits = record { index_is = omega arith; vs-is = refl; first-line = omega arith; line-below = omega arith; first-column = omega arith; column-below = omega arith }
+  line-fits = record { index-is = omega arith; vs-is = refl; first-line = omega arith; line-below = omega arith; first-column = omega arith; column-below = omega arith }
 
-  byte_fits : (n : ℕ) → n ≤ 4 → Fit (i + 1) (nextByte p n)
-  byte_fits n h = record { index_is = omega arith; vs-is = refl; first-line = omega arith; line-below = omega arith; first-column = omega arith; column-below = omega arith }
+  byte-fits : (n : ℕ) → n ≤ 4 → Fit (i + 1) (nextByte p n)
+  byte-fits n h = record { index-is = omega arith; vs-is = refl; first-line = omega arith; line-below = omega arith; first-column = omega arith; column-below = omega arith }
 
   skip-fits : Fit (i + 1) (skipByte p)
-  skip-fits = record { index_is = omega arith; vs-is = f.vs-is; first-line = omega arith; line-below = omega arith; first-column = omega arith; column-below = omega arith }
+  skip-fits = record { index-is = omega arith; vs-is = f.vs-is; first-line = omega arith; line-below = omega arith; first-column = omega arith; column-below = omega arith }
 
   passed-fits : (s : List ℕ) → Fit (i + 1) (passed p s)
   unfolding passed
   passed-fits s =
       split (endsLine s) (λ e. rw e line-fits)
       (λ e. split (eqb (first s) (byte "\r")) (λ r. rw (e, r) skip-fits)
-      (λ r. split (eqb (first s) (byte "\t")) (λ t. rw (e, r, t) (byte_fits (tabReadings p.column) (tab-most p.column))) (λ t. rw (e, r, t) (byte_fits 1 (omega arith)))))
+      (λ r. split (eqb (first s) (byte "\t")) (λ t. rw (e, r, t) (byte-fits (tabReadings p.column) (tab-most p.column))) (λ t. rw (e, r, t) (byte-fits 1 (omega arith)))))
 
 pub point-fits : (text : List ℕ) (i : ℕ) → i ≤ length text → i < 2 ^ 61 → Fit i (pointAt text i)
 point-fits text zero h small =
-    rw (point-start text) (record { index_is = refl; vs-is = refl; first-line = omega arith; line-below = omega arith; first-column = omega arith; column-below = omega arith })
+    rw (point-start text) (record { index-is = refl; vs-is = refl; first-line = omega arith; line-below = omega arith; first-column = omega arith; column-below = omega arith })
 point-fits text (suc i) h small =
     let n : pointAt text (suc i) ≡ passed (pointAt text i) (drop i text) = rw add-one at (point-next text i (omega arith)) in
     let q : Fit (suc i) (passed (pointAt text i) (drop i text)) = rw add-one at (passed-fits i (omega arith) (pointAt text i) (point-fits text i (omega arith) (omega arith)) (drop i text)) in

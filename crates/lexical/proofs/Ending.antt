@@ -3,7 +3,7 @@ use Rattle.std.proofs.Common.{◌≡◌, ℕ, zero, suc, ◌+◌, ◌-◌, ◌<�
 use Rattle.lexical.specs.Text.{byte, pick, first, run}
 use Rattle.lexical.specs.Byte.{isSpaceOrTab, isLineEndingByte}
 use Rattle.lexical.specs.Line.{lineEnding, endsLine, lineEndings, isLineStart, lineLength, atLineEnd, isBlank}
-use Rattle.lexical.proofs.Cases.{split, or_left, or_right}
+use Rattle.lexical.proofs.Cases.{split, or-left, or-right}
 use Rattle.lexical.proofs.Suffix.{suffix-in, suffix-out}
 use Rattle.lexical.proofs.Run.{behind-at}
 use borrow.Author.Tests.{not-true}
@@ -43,7 +43,7 @@ module _ (s : List ℕ) (i : ℕ) where
 -- no byte of a line's content ends it
 inner-none : (x : ℕ) (xs : List ℕ) → isLineEndingByte x ≡ false → endsLine (x ∷ xs) ≡ false
 unfolding endsLine
-inner-none x xs h = rw (or_left (eqb x (byte "\n")) (eqb x (byte "\r")) h, or_right (eqb x (byte "\n")) (eqb x (byte "\r")) h)
+inner-none x xs h = rw (or-left (eqb x (byte "\n")) (eqb x (byte "\r")) h, or-right (eqb x (byte "\n")) (eqb x (byte "\r")) h)
 
 content-none : (x : ℕ) (xs : List ℕ) → not (isLineEndingByte x) ≡ true → lineEndings (x ∷ xs) ≡ lineEndings xs
 unfolding lineEndings

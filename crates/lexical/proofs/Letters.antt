@@ -4,39 +4,39 @@ use borrow.Author.Tests.{lt-leb}
 use Rattle.lexical.specs.Text.{byte, first}
 use Rattle.lexical.specs.Byte.{within}
 use Rattle.lexical.specs.Name.{all, chain, beginningWith, Exactly, namesBelow, startsFrom, letters, letterStarts, byLetter, GoesTo}
-use Rattle.lexical.proofs.Cases.{split, excluded, and_left, and_right}
+use Rattle.lexical.proofs.Cases.{split, excluded, and-left, and-right}
 use Rattle.lexical.proofs.Table.{chain-tail}
 
 -- ---- side by side
 abbrev inOrder : List ℕ → List ℕ → Bool
 inOrder x y = leb (first x) (first y)
 
-abbrev from_byte : ℕ → List (List ℕ) → Bool
-from_byte b names = all (λ x. leb b (first x)) names
+abbrev from-byte : ℕ → List (List ℕ) → Bool
+from-byte b names = all (λ x. leb b (first x)) names
 
 -- in order, no name behind one begins with an earlier byte than it
-behind : (b : ℕ) (x : List ℕ) (xs : List (List ℕ)) → chain inOrder (x ∷ xs) ≡ true → b ≤ first x → from_byte b (x ∷ xs) ≡ true
+behind : (b : ℕ) (x : List ℕ) (xs : List (List ℕ)) → chain inOrder (x ∷ xs) ≡ true → b ≤ first x → from-byte b (x ∷ xs) ≡ true
 unfolding all chain
 behind b x [] e h = rw (le-leb b (first x) h)
 behind b x (y ∷ ys) e h =
-    let s : first x ≤ first y = leb-true (first x) (first y) (and_left (inOrder x y) (chain inOrder (y ∷ ys)) e) in
-    rw (le-leb b (first x) h) (behind b y ys (and_right (inOrder x y) (chain inOrder (y ∷ ys)) e) (omega arith))
+    let s : first x ≤ first y = leb-true (first x) (first y) (and-left (inOrder x y) (chain inOrder (y ∷ ys)) e) in
+    rw (le-leb b (first x) h) (behind b y ys (and-right (inOrder x y) (chain inOrder (y ∷ ys)) e) (omega arith))
 
 -- names of which none begins with a byte below b
-none_below : (b : ℕ) (names : List (List ℕ)) → from_byte b names ≡ true → namesBelow b names ≡ 0
+none-below : (b : ℕ) (names : List (List ℕ)) → from-byte b names ≡ true → namesBelow b names ≡ 0
 unfolding all namesBelow
-none_below b [] e = refl
-none_below b (x ∷ xs) e =
-    let h : b ≤ first x = leb-true b (first x) (and_left (leb b (first x)) (from_byte b xs) e) in
-    rw (le-ltb (first x) b h) (none_below b xs (and_right (leb b (first x)) (from_byte b xs) e))
+none-below b [] e = refl
+none-below b (x ∷ xs) e =
+    let h : b ≤ first x = leb-true b (first x) (and-left (leb b (first x)) (from-byte b xs) e) in
+    rw (le-ltb (first x) b h) (none-below b xs (and-right (leb b (first x)) (from-byte b xs) e))
 
 -- names whose first bytes all pass a test that b does not: none begins with b
 none-begins : (f : ℕ → Bool) (b : ℕ) (names : List (List ℕ)) → all (λ x. f (first x)) names ≡ true → f b ≡ false → beginningWith b names ≡ []
 unfolding all beginningWith
 none-begins f b [] h e = refl
 none-begins f b (x ∷ xs) h e =
-    let d : eqb (first x) b ≡ false = excluded f b (first x) e (and_left (f (first x)) (all (λ y. f (first y)) xs) h) in
-    rw d (none-begins f b xs (and_right (f (first x)) (all (λ y. f (first y)) xs) h) e)
+    let d : eqb (first x) b ≡ false = excluded f b (first x) e (and-left (f (first x)) (all (λ y. f (first y)) xs) h) in
+    rw d (none-begins f b xs (and-right (f (first x)) (all (λ y. f (first y)) xs) h) e)
 
 -- the names from where those of a byte begin to where those of the next do are those that begin with it
 abbrev SideBySide : ℕ → List (List ℕ) → Type 0
@@ -52,23 +52,23 @@ module _ (b : ℕ) (x : List ℕ) (xs : List (List ℕ)) (e : chain inOrder (x �
   begins-so : first x ≡ b → SideBySide b (x ∷ xs)
   unfolding namesBelow beginningWith all
   begins-so h =
-      let n : namesBelow b xs ≡ 0 = none_below b xs (and_right (leb b (first x)) (from_byte b xs) (behind b x xs e (omega arith))) in
+      let n : namesBelow b xs ≡ 0 = none-below b xs (and-right (leb b (first x)) (from-byte b xs) (behind b x xs e (omega arith))) in
       let z : suc (namesBelow (suc b) xs) - 0 ≡ suc (namesBelow (suc b) xs) = omega arith in
       let y : namesBelow (suc b) xs - 0 ≡ namesBelow (suc b) xs = omega arith in
       rw (le-ltb (first x) b (omega arith), lt-ltb (first x) (suc b) (omega arith), eq-eqb (first x) b h, n, z) (ap (λ l. x ∷ l) (rw (n, y) at rest))
 
   begins-later : b < first x → SideBySide b (x ∷ xs)
   begins-later h =
-      let a : from_byte (suc b) (x ∷ xs) ≡ true = behind (suc b) x xs e h in
-      let n : namesBelow (suc b) (x ∷ xs) ≡ 0 = none_below (suc b) (x ∷ xs) a in
+      let a : from-byte (suc b) (x ∷ xs) ≡ true = behind (suc b) x xs e h in
+      let n : namesBelow (suc b) (x ∷ xs) ≡ 0 = none-below (suc b) (x ∷ xs) a in
       let z : 0 - namesBelow b (x ∷ xs) ≡ 0 = omega arith in
       rw (n, z) (sym (none-begins (leb (suc b)) b (x ∷ xs) a (lt-leb (suc b) b (omega arith))))
 
-side_by_side : (b : ℕ) (names : List (List ℕ)) → chain inOrder names ≡ true → SideBySide b names
+side-by-side : (b : ℕ) (names : List (List ℕ)) → chain inOrder names ≡ true → SideBySide b names
 unfolding namesBelow beginningWith
-side_by_side b [] e = refl
-side_by_side b (x ∷ xs) e =
-    let rest = side_by_side b xs (chain-tail inOrder x xs e) in
+side-by-side b [] e = refl
+side-by-side b (x ∷ xs) e =
+    let rest = side-by-side b xs (chain-tail inOrder x xs e) in
     split (ltb (first x) b) (λ l. begins-earlier b x xs e rest (ltb-true (first x) b l))
     (λ l.
     let least = ltb-false (first x) b l in
@@ -76,18 +76,18 @@ side_by_side b (x ∷ xs) e =
     (λ m. let most = ltb-false b (first x) m in begins-so b x xs e rest (omega arith)))
 
 -- the two places are in their order, and in the list
-below_more : (b : ℕ) (names : List (List ℕ)) → namesBelow b names ≤ namesBelow (suc b) names
+below-more : (b : ℕ) (names : List (List ℕ)) → namesBelow b names ≤ namesBelow (suc b) names
 unfolding namesBelow
-below_more b [] = omega arith
-below_more b (x ∷ xs) =
-    let h = below_more b xs in
+below-more b [] = omega arith
+below-more b (x ∷ xs) =
+    let h = below-more b xs in
     split (ltb (first x) b) (λ l. let a = ltb-true (first x) b l in rw (l, lt-ltb (first x) (suc b) (omega arith)) (omega arith))
     (λ l. split (ltb (first x) (suc b)) (λ m. rw (l, m) (omega arith)) (λ m. rw (l, m) h))
 
-below_all : (b : ℕ) (names : List (List ℕ)) → namesBelow b names ≤ length names
+below-all : (b : ℕ) (names : List (List ℕ)) → namesBelow b names ≤ length names
 unfolding namesBelow
-below_all b [] = omega arith
-below_all b (x ∷ xs) = let h = below_all b xs in split (ltb (first x) b) (λ l. rw l (omega arith)) (λ l. rw l (omega arith))
+below-all b [] = omega arith
+below-all b (x ∷ xs) = let h = below-all b xs in split (ltb (first x) b) (λ l. rw l (omega arith)) (λ l. rw l (omega arith))
 
 -- ---- what the starts say
 starts-at : (n b : ℕ) (names : List (List ℕ)) (k : ℕ) → k ≤ n → get_or (startsFrom n b names) k 0 ≡ namesBelow (b + k) names
@@ -109,7 +109,7 @@ module _ (names : List (List ℕ)) (e : byLetter names ≡ true) where
 
   pub begin-lower : lettered ≡ true
   unfolding byLetter
-  begin-lower = and_left lettered ordered e
+  begin-lower = and-left lettered ordered e
 
   -- from where a letter begins to where the next does
   at-letter : (k : ℕ) → k < letters → Exactly names (byte "a" + k) (get_or (letterStarts names) k 0) (get_or (letterStarts names) (k + 1) 0)
@@ -117,7 +117,7 @@ module _ (names : List (List ℕ)) (e : byLetter names ≡ true) where
   at-letter k h =
       let z : byte "a" + (k + 1) ≡ suc (byte "a" + k) = omega arith in
       rw (starts-at letters (byte "a") names k (omega arith), starts-at letters (byte "a") names (k + 1) (omega arith), z)
-      (record { forward = below_more (byte "a" + k) names; inside = below_all (suc (byte "a" + k)) names; same = side_by_side (byte "a" + k) names (and_right lettered ordered e) })
+      (record { forward = below-more (byte "a" + k) names; inside = below-all (suc (byte "a" + k)) names; same = side-by-side (byte "a" + k) names (and-right lettered ordered e) })
 
   -- and nowhere where it is none
   pub at-no-letter : (b : ℕ) → isLower b ≡ false → Exactly names b 0 0
@@ -126,10 +126,10 @@ module _ (names : List (List ℕ)) (e : byLetter names ≡ true) where
 -- which of the letters a byte is
 module _ (b : ℕ) (h : isLower b ≡ true) where
   pub letter-least : byte "a" ≤ b
-  letter-least = leb-true (byte "a") b (and_left (leb (byte "a") b) (leb b (byte "z")) h)
+  letter-least = leb-true (byte "a") b (and-left (leb (byte "a") b) (leb b (byte "z")) h)
 
   pub letter-most : b ≤ byte "z"
-  letter-most = leb-true b (byte "z") (and_right (leb (byte "a") b) (leb b (byte "z")) h)
+  letter-most = leb-true b (byte "z") (and-right (leb (byte "a") b) (leb b (byte "z")) h)
 
 -- 02, Ask 3, as the lookup goes: it has the byte c, which is b
 module _ (starts : List ℕ) (b c : ℕ) (same : c ≡ b) where

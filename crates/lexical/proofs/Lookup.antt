@@ -4,7 +4,7 @@ use Rattle.std.proofs.Common.{◌≡◌, ℕ, zero, suc, ◌+◌, ◌-◌, ◌<�
 use Rattle.lexical.specs.Text.{first, none}
 use Rattle.lexical.specs.Byte.{lower}
 use Rattle.lexical.specs.Name.{all, chain, sameBytes, placeFrom, unnamed, cut, rising, beginningWith, Exactly, letters, letterStarts, startsFrom, GoesTo, LetterTable}
-use Rattle.lexical.proofs.Cases.{split, clash, and_left, and_right}
+use Rattle.lexical.proofs.Cases.{split, clash, and-left, and-right}
 use Rattle.lexical.proofs.Same.{same-equal}
 use Rattle.lexical.proofs.Table.{all-part, chain-part}
 use Rattle.lexical.proofs.Letters.{at-no-letter}
@@ -51,8 +51,8 @@ module _ (names : List (List ℕ)) (b from to : ℕ) (e : Exactly names b from t
   parts : names ≡ front ++ (those ++ back)
   parts = sym (ap (λ l. front ++ l) (take-append-drop (to - from) (drop from names)) ∙ take-append-drop from names)
 
-  all_there : beginningWith b those ≡ those
-  all_there = ap (beginningWith b) e.same ∙ begins-twice b names ∙ sym e.same
+  all-there : beginningWith b those ≡ those
+  all-there = ap (beginningWith b) e.same ∙ begins-twice b names ∙ sym e.same
 
   -- so none stands elsewhere
   begun : those ≡ beginningWith b front ++ (those ++ beginningWith b back)
@@ -60,21 +60,21 @@ module _ (names : List (List ℕ)) (b from to : ℕ) (e : Exactly names b from t
       e.same
       ∙ ap (beginningWith b) parts
       ∙ begins-append b front (those ++ back)
-      ∙ ap (λ l. beginningWith b front ++ l) (begins-append b those back ∙ ap (λ l. l ++ beginningWith b back) all_there)
+      ∙ ap (λ l. beginningWith b front ++ l) (begins-append b those back ∙ ap (λ l. l ++ beginningWith b back) all-there)
 
   counted : length those ≡ length (beginningWith b front) + (length those + length (beginningWith b back))
   counted = ap length begun ∙ length-append (beginningWith b front) (those ++ beginningWith b back) ∙ ap (λ k. length (beginningWith b front) + k) (length-append those (beginningWith b back))
 
-  none_before : beginningWith b front ≡ []
-  none_before = drop_of_length-le (beginningWith b front) {i = 0} (omega (arith, counted))
+  none-before : beginningWith b front ≡ []
+  none-before = drop_of_length-le (beginningWith b front) {i = 0} (omega (arith, counted))
 
   none-behind : beginningWith b back ≡ []
   none-behind = drop_of_length-le (beginningWith b back) {i = 0} (omega (arith, counted))
 
-  place_at : (n : List ℕ) → first n ≡ b → placeFrom 0 n names ≡ placeFrom from n those
-  place_at n f =
+  place-at : (n : List ℕ) → first n ≡ b → placeFrom 0 n names ≡ placeFrom from n those
+  place-at n f =
       ap (placeFrom 0 n) parts
-      ∙ over 0 n front (those ++ back) (rw f none_before)
+      ∙ over 0 n front (those ++ back) (rw f none-before)
       ∙ without (0 + length front) n those back (rw f none-behind)
       ∙ ap (λ k. placeFrom k n those) before
     where
@@ -112,17 +112,17 @@ module _ (table offsets starts : List ℕ) (t : LetterTable table offsets starts
   unfolding letterStarts startsFrom
   starts-long = omega (arith, ap length t.begin)
 
-  pub no_name : (name : List ℕ) → length name ≡ 0 → unnamed ≡ placeFrom 0 (map lower name) names
+  pub no-name : (name : List ℕ) → length name ≡ 0 → unnamed ≡ placeFrom 0 (map lower name) names
   unfolding placeFrom
-  no_name name e = rw (drop_of_length-le name {i = 0} (omega (arith, e))) (sym (place_at names none 0 0 (at-no-letter names t.order none refl) [] refl))
+  no-name name e = rw (drop_of_length-le name {i = 0} (omega (arith, e))) (sym (place-at names none 0 0 (at-no-letter names t.order none refl) [] refl))
 
   -- any part of the offsets
   module _ (k m : ℕ) where
     pub part-rises : rising (length table) (take m (drop k offsets)) ≡ true
     unfolding rising
     part-rises =
-        let below = and_left (all (λ o. leb o (length table)) offsets) (chain ltb offsets) t.rise in
-        let strict = and_right (all (λ o. leb o (length table)) offsets) (chain ltb offsets) t.rise in
+        let below = and-left (all (λ o. leb o (length table)) offsets) (chain ltb offsets) t.rise in
+        let strict = and-right (all (λ o. leb o (length table)) offsets) (chain ltb offsets) t.rise in
         rw (all-part (λ o. leb o (length table)) k m offsets below) (chain-part ltb k m offsets strict)
 
     pub part-few : k < length offsets → k + length (take m (drop k offsets)) ≤ unnamed
@@ -144,12 +144,12 @@ module _ (table offsets starts : List ℕ) (t : LetterTable table offsets starts
         let z : to + 1 - from ≡ suc (to - from) = omega (arith, exact.forward) in
         ap (λ k. placeFrom from n (cut table (take k (drop from offsets)))) z
         ∙ ap (placeFrom from n) (cut-part table from (to - from) offsets)
-        ∙ sym (place_at names b from to exact n f)
+        ∙ sym (place-at names b from to exact n f)
 
   -- the first byte of a name in lower case
   begins : (n : List ℕ) → (length n ≡ 0 → ⊥) → first (map lower n) ≡ lower (get_or n 0 0)
   begins [] h = absurd (h refl)
   begins (x ∷ xs) h = refl
 
-  pub place_is : (name : List ℕ) (from to : ℕ) → GoesTo starts (lower (get_or name 0 0)) from to → (length name ≡ 0 → ⊥) → placeFrom from (map lower name) (cut table (take (to + 1 - from) (drop from offsets))) ≡ placeFrom 0 (map lower name) names
-  place_is name from to g some = place-among (lower (get_or name 0 0)) from to g (map lower name) (begins name some)
+  pub place-is : (name : List ℕ) (from to : ℕ) → GoesTo starts (lower (get_or name 0 0)) from to → (length name ≡ 0 → ⊥) → placeFrom from (map lower name) (cut table (take (to + 1 - from) (drop from offsets))) ≡ placeFrom 0 (map lower name) names
+  place-is name from to g some = place-among (lower (get_or name 0 0)) from to g (map lower name) (begins name some)

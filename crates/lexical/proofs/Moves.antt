@@ -30,21 +30,21 @@ module _ (p : Point) (s : List ℕ) (i : ℕ) where
   passed-in h = rw (suffix-in s i h)
 
   -- n bytes on from i, past the byte at i
-  pub moved_in : (n : ℕ) → i < length s → movedBy (suc n) p (drop i s) ≡ movedBy n (passed p (drop i s)) (drop (i + 1) s)
+  pub moved-in : (n : ℕ) → i < length s → movedBy (suc n) p (drop i s) ≡ movedBy n (passed p (drop i s)) (drop (i + 1) s)
   unfolding movedBy
-  moved_in n h = rw (suffix-in s i h)
+  moved-in n h = rw (suffix-in s i h)
 
-  pub moved_out : (n : ℕ) → length s ≤ i → movedBy n p (drop i s) ≡ p
+  pub moved-out : (n : ℕ) → length s ≤ i → movedBy n p (drop i s) ≡ p
   unfolding movedBy
-  moved_out zero h = refl
-  moved_out (suc n) h = rw (suffix-out s i h)
+  moved-out zero h = refl
+  moved-out (suc n) h = rw (suffix-out s i h)
 
 -- one turn of a loop that moves to an index
 pub turn : (p : Point) (s : List ℕ) (i index : ℕ) → i < index → i < length s
     → movedBy (index - i) p (drop i s) ≡ movedBy (index - (i + 1)) (passed p (drop i s)) (drop (i + 1) s)
 turn p s i index l h =
     let e : index - i ≡ suc (index - (i + 1)) = omega arith in
-    ap (λ n. movedBy n p (drop i s)) e ∙ moved_in p s i (index - (i + 1)) h
+    ap (λ n. movedBy n p (drop i s)) e ∙ moved-in p s i (index - (i + 1)) h
 
 pub arrived : (p : Point) (s : List ℕ) (i index : ℕ) → index ≤ i → movedBy (index - i) p s ≡ p
 unfolding movedBy
@@ -57,26 +57,26 @@ module _ (text : List ℕ) where
   point-start = refl
 
   -- moving by m and then by n is moving by both
-  by_both : (m n i : ℕ) (p : Point) → movedBy n (movedBy m p (drop i text)) (drop (i + m) text) ≡ movedBy (m + n) p (drop i text)
+  by-both : (m n i : ℕ) (p : Point) → movedBy n (movedBy m p (drop i text)) (drop (i + m) text) ≡ movedBy (m + n) p (drop i text)
   unfolding movedBy
-  by_both zero n i p = rw (add-zero, zero-add)
-  by_both (suc m) n i p =
+  by-both zero n i p = rw (add-zero, zero-add)
+  by-both (suc m) n i p =
       split (ltb i (length text))
       (λ t.
       let h : i < length text = ltb-true i (length text) t in
       let e : i + suc m ≡ (i + 1) + m = omega arith in
-      rw (suc-add, moved_in p text i (m + n) h, moved_in p text i m h, e) (by_both m n (i + 1) (passed p (drop i text))))
+      rw (suc-add, moved-in p text i (m + n) h, moved-in p text i m h, e) (by-both m n (i + 1) (passed p (drop i text))))
       (λ t.
       let h : length text ≤ i = ltb-false i (length text) t in
       let k : length text ≤ i + suc m = omega arith in
-      rw (moved_out p text i (suc m) h, moved_out p text i (suc m + n) h) (moved_out p text (i + suc m) n k))
+      rw (moved-out p text i (suc m) h, moved-out p text i (suc m + n) h) (moved-out p text (i + suc m) n k))
 
   -- from the point at i on to j
   pub point-on : (i j : ℕ) → i ≤ j → movedBy (j - i) (pointAt text i) (drop i text) ≡ pointAt text j
   unfolding pointAt
   point-on i j h =
       let e : i + (j - i) ≡ j = omega arith in
-      let b : movedBy (j - i) (movedBy i start (drop 0 text)) (drop (0 + i) text) ≡ movedBy (i + (j - i)) start (drop 0 text) = by_both i (j - i) 0 start in
+      let b : movedBy (j - i) (movedBy i start (drop 0 text)) (drop (0 + i) text) ≡ movedBy (i + (j - i)) start (drop 0 text) = by-both i (j - i) 0 start in
       let z : 0 + i ≡ i = omega arith in
       rw (z, e) at b
 
@@ -85,4 +85,4 @@ module _ (text : List ℕ) where
   unfolding movedBy
   point-next i h =
       let e : (i + 1) - i ≡ suc 0 = omega arith in
-      sym (point-on i (i + 1) (omega arith)) ∙ rw e (moved_in (pointAt text i) text i 0 h)
+      sym (point-on i (i + 1) (omega arith)) ∙ rw e (moved-in (pointAt text i) text i 0 h)

@@ -5,7 +5,7 @@ use Rattle.std.proofs.Common.{◌≡◌, ℕ, suc, ◌+◌, ◌-◌, ◌<◌, �
 use Rattle.lexical.specs.Byte.{within, isDigit, lower}
 use Rattle.lexical.specs.Text.{byte}
 use Rattle.lexical.specs.Name.{blockNames, rawNames, disallowedNames, sameBytes, isMember, isBlockName, isRawName, isDisallowedName, unnamed, placeFrom, blockPlace, rawPlace, StandsAt, nameBytes, nameOffsets, cut, all, chain, rising, letterStarts, byLetter, LetterTable}
-use Rattle.lexical.proofs.Cases.{and_left, and_right, split, clash}
+use Rattle.lexical.proofs.Cases.{and-left, and-right, split, clash}
 use Rattle.lexical.proofs.Suffix.{suffix-in, suffix-out}
 use Rattle.lexical.proofs.Same.{same-equal}
 use Rattle.lexical.proofs.Table.{all-at, chain-at}
@@ -27,14 +27,14 @@ sameNames [] (y ∷ ys) = false
 sameNames (x ∷ xs) [] = false
 sameNames (x ∷ xs) (y ∷ ys) = sameBytes x y && sameNames xs ys
 
-pub same_names : (xs ys : List (List ℕ)) → sameNames xs ys ≡ true → xs ≡ ys
+pub same-names : (xs ys : List (List ℕ)) → sameNames xs ys ≡ true → xs ≡ ys
 unfolding sameNames
-same_names [] [] e = refl
-same_names [] (y ∷ ys) e = cc
-same_names (x ∷ xs) [] e = cc
-same_names (x ∷ xs) (y ∷ ys) e =
-    let p : x ≡ y = same-equal x y (and_left (sameBytes x y) (sameNames xs ys) e) in
-    let q : xs ≡ ys = same_names xs ys (and_right (sameBytes x y) (sameNames xs ys) e) in
+same-names [] [] e = refl
+same-names [] (y ∷ ys) e = cc
+same-names (x ∷ xs) [] e = cc
+same-names (x ∷ xs) (y ∷ ys) e =
+    let p : x ≡ y = same-equal x y (and-left (sameBytes x y) (sameNames xs ys) e) in
+    let q : xs ≡ ys = same-names xs ys (and-right (sameBytes x y) (sameNames xs ys) e) in
     cc
 
 -- the offsets of a list of names cut just those names
@@ -73,9 +73,9 @@ pub block-length : length (nameBytes blockNames) ≡ 294
 unfolding blockNames nameBytes
 block-length = refl
 
-pub block_last : get_or (nameOffsets 0 blockNames) 62 0 ≡ 294
+pub block-last : get_or (nameOffsets 0 blockNames) 62 0 ≡ 294
 unfolding blockNames nameOffsets
-block_last = refl
+block-last = refl
 
 -- one offset more than names
 offsets-length : (n : ℕ) (names : List (List ℕ)) → length (nameOffsets n names) ≡ suc (length names)
@@ -98,35 +98,35 @@ module _ (names : List (List ℕ)) (e : sound names ≡ true) where
 
   behind-lows : (order && (rise && (cuts names && (byLetter names && few)))) ≡ true
   unfolding sound
-  behind-lows = and_right lows (order && (rise && (cuts names && (byLetter names && few)))) e
+  behind-lows = and-right lows (order && (rise && (cuts names && (byLetter names && few)))) e
 
   behind-order : (rise && (cuts names && (byLetter names && few))) ≡ true
-  behind-order = and_right order (rise && (cuts names && (byLetter names && few))) behind-lows
+  behind-order = and-right order (rise && (cuts names && (byLetter names && few))) behind-lows
 
   behind-rise : (cuts names && (byLetter names && few)) ≡ true
-  behind-rise = and_right rise (cuts names && (byLetter names && few)) behind-order
+  behind-rise = and-right rise (cuts names && (byLetter names && few)) behind-order
 
   behind-cuts : (byLetter names && few) ≡ true
-  behind-cuts = and_right (cuts names) (byLetter names && few) behind-rise
+  behind-cuts = and-right (cuts names) (byLetter names && few) behind-rise
 
   pub lower-at : (k : ℕ) → k < length (nameBytes names) → isLowerByte (get_or (nameBytes names) k 0) ≡ true
   unfolding sound
-  lower-at k h = all-at 0 isLowerByte (nameBytes names) (and_left lows (order && (rise && (cuts names && (byLetter names && few)))) e) k h
+  lower-at k h = all-at 0 isLowerByte (nameBytes names) (and-left lows (order && (rise && (cuts names && (byLetter names && few)))) e) k h
 
   pub order-at : (k : ℕ) → k + 1 < length names → before (get_or names k []) (get_or names (k + 1) []) ≡ true
-  order-at k h = chain-at [] before names (and_left order (rise && (cuts names && (byLetter names && few))) behind-lows) k h
+  order-at k h = chain-at [] before names (and-left order (rise && (cuts names && (byLetter names && few))) behind-lows) k h
 
   pub offsets-rise : rise ≡ true
-  offsets-rise = and_left rise (cuts names && (byLetter names && few)) behind-order
+  offsets-rise = and-left rise (cuts names && (byLetter names && few)) behind-order
 
   pub cut-is : cut (nameBytes names) (nameOffsets 0 names) ≡ names
-  cut-is = same_names (cut (nameBytes names) (nameOffsets 0 names)) names (and_left (cuts names) (byLetter names && few) behind-rise)
+  cut-is = same-names (cut (nameBytes names) (nameOffsets 0 names)) names (and-left (cuts names) (byLetter names && few) behind-rise)
 
   pub by-letter : byLetter names ≡ true
-  by-letter = and_left (byLetter names) few behind-cuts
+  by-letter = and-left (byLetter names) few behind-cuts
 
-  pub count_fits : length names < unnamed
-  count_fits = ltb-true (length names) unnamed (and_right (byLetter names) few behind-cuts)
+  pub count-fits : length names < unnamed
+  count-fits = ltb-true (length names) unnamed (and-right (byLetter names) few behind-cuts)
 
   -- a table as the code has it
   module _ (table offsets starts : List ℕ) (t : table ≡ nameBytes names) (o : offsets ≡ nameOffsets 0 names) (s : starts ≡ letterStarts names) where
@@ -141,7 +141,7 @@ module _ (names : List (List ℕ)) (e : sound names ≡ true) where
         record {
           rise = rw (t, o) offsets-rise;
           counted = offsets-count ∙ ap (λ l. suc (length l)) (sym names-are);
-          few = omega (arith, offsets-count, count_fits);
+          few = omega (arith, offsets-count, count-fits);
           order = ap byLetter names-are ∙ by-letter;
           begin = s ∙ ap letterStarts (sym names-are);
         }
@@ -153,11 +153,11 @@ module _ (names : List (List ℕ)) (e : sound names ≡ true) where
 module _ (n : ℕ) (offsets : List ℕ) (e : rising n offsets ≡ true) (k : ℕ) (h : k + 1 < length offsets) where
   pub rises : get_or offsets k 0 < get_or offsets (k + 1) 0
   unfolding rising
-  rises = ltb-true _ _ (chain-at 0 ltb offsets (and_right (all (λ o. leb o n) offsets) (chain ltb offsets) e) k h)
+  rises = ltb-true _ _ (chain-at 0 ltb offsets (and-right (all (λ o. leb o n) offsets) (chain ltb offsets) e) k h)
 
   pub within-table : get_or offsets (k + 1) 0 ≤ n
   unfolding rising
-  within-table = leb-true _ _ (all-at 0 (λ o. leb o n) offsets (and_left (all (λ o. leb o n) offsets) (chain ltb offsets) e) (k + 1) h)
+  within-table = leb-true _ _ (all-at 0 (λ o. leb o n) offsets (and-left (all (λ o. leb o n) offsets) (chain ltb offsets) e) (k + 1) h)
 
 -- ---- the lookup
 -- the names that a table and its offsets cut, from offset k on: the one between it and the next, and those behind
@@ -168,9 +168,9 @@ module _ (table offsets : List ℕ) (k : ℕ) where
   abbrev pub part : List ℕ
   part = take (get_or offsets (k + 1) 0 - get_or offsets k 0) (drop (get_or offsets k 0) table)
 
-  pub names_in : k + 1 < length offsets → namesFrom ≡ part ∷ cut table (drop (k + 1) offsets)
+  pub names-in : k + 1 < length offsets → namesFrom ≡ part ∷ cut table (drop (k + 1) offsets)
   unfolding cut
-  names_in h = let l : k < length offsets = omega arith in rw (suffix-in offsets k l, suffix-in offsets (k + 1) h)
+  names-in h = let l : k < length offsets = omega arith in rw (suffix-in offsets k l, suffix-in offsets (k + 1) h)
 
   pub names-out : length offsets ≤ k + 1 → namesFrom ≡ []
   unfolding cut
@@ -186,15 +186,15 @@ module _ (table offsets : List ℕ) (k : ℕ) where
     -- one turn: the name is that one, or is looked for behind it
     pub hit : k + 1 < length offsets → sameBytes n part ≡ true → placeBehind ≡ first + k
     unfolding placeFrom
-    hit h t = ap (placeFrom (first + k) n) (names_in h) ∙ rw t
+    hit h t = ap (placeFrom (first + k) n) (names-in h) ∙ rw t
 
     pub miss : k + 1 < length offsets → sameBytes n part ≡ false → placeFrom (first + (k + 1)) n (cut table (drop (k + 1) offsets)) ≡ placeBehind
     unfolding placeFrom
-    miss h t = let z : first + (k + 1) ≡ suc (first + k) = omega arith in sym (ap (placeFrom (first + k) n) (names_in h) ∙ rw (t, z))
+    miss h t = let z : first + (k + 1) ≡ suc (first + k) = omega arith in sym (ap (placeFrom (first + k) n) (names-in h) ∙ rw (t, z))
 
-    pub no_more : length offsets ≤ k + 1 → placeBehind ≡ unnamed
+    pub no-more : length offsets ≤ k + 1 → placeBehind ≡ unnamed
     unfolding placeFrom
-    no_more h = ap (placeFrom (first + k) n) (names-out h)
+    no-more h = ap (placeFrom (first + k) n) (names-out h)
 
 -- ---- the place says whether it is there
 place-member : (k : ℕ) (n : List ℕ) (names : List (List ℕ)) → k + length names ≤ unnamed → isMember n names ≡ not (eqb (placeFrom k n names) unnamed)
@@ -204,7 +204,7 @@ place-member k n (x ∷ xs) h =
     split (sameBytes n x) (λ e. let u = ne_eqb k unnamed (λ z. omega arith) in rw (e, u)) (λ e. rw e (place-member (suc k) n xs (omega arith)))
 
 place-tells : (names : List (List ℕ)) → sound names ≡ true → (n : List ℕ) (place : ℕ) → place ≡ placeFrom 0 n names → isMember n names ≡ not (eqb place unnamed)
-place-tells names s n place e = place-member 0 n names (omega (arith, count_fits names s)) ∙ ap (λ p. not (eqb p unnamed)) (sym e)
+place-tells names s n place e = place-member 0 n names (omega (arith, count-fits names s)) ∙ ap (λ p. not (eqb p unnamed)) (sym e)
 
 module _ (n : List ℕ) (place : ℕ) where
   pub block-place-is : place ≡ blockPlace n → isBlockName n ≡ not (eqb place unnamed)
@@ -230,16 +230,16 @@ stands-first k n x xs e = let z : k - k ≡ 0 = omega arith in (omega arith, (om
 stands-behind : (k : ℕ) (n x : List ℕ) (xs : List (List ℕ)) (p : ℕ) → StandsFrom (suc k) n xs p → StandsFrom k n (x ∷ xs) p
 stands-behind k n x xs p (a, (b, c)) = let z : p - k ≡ suc (p - suc k) = omega arith in (omega arith, (omega arith, rw z c))
 
-stands_from : (k : ℕ) (n : List ℕ) (names : List (List ℕ)) → isMember n names ≡ true → StandsFrom k n names (placeFrom k n names)
+stands-from : (k : ℕ) (n : List ℕ) (names : List (List ℕ)) → isMember n names ≡ true → StandsFrom k n names (placeFrom k n names)
 unfolding isMember placeFrom
-stands_from k n [] h = clash false h refl
-stands_from k n (x ∷ xs) h =
-    split (sameBytes n x) (λ e. rw e (stands-first k n x xs (same-equal n x e))) (λ e. rw e (stands-behind k n x xs _ (stands_from (suc k) n xs (rw e at h))))
+stands-from k n [] h = clash false h refl
+stands-from k n (x ∷ xs) h =
+    split (sameBytes n x) (λ e. rw e (stands-first k n x xs (same-equal n x e))) (λ e. rw e (stands-behind k n x xs _ (stands-from (suc k) n xs (rw e at h))))
 
 module _ (n : List ℕ) where
   stands : (names : List (List ℕ)) → isMember (map lower n) names ≡ true → StandsAt names n (placeFrom 0 (map lower n) names)
   stands names h =
-      let s = stands_from 0 (map lower n) names h in
+      let s = stands-from 0 (map lower n) names h in
       let z : placeFrom 0 (map lower n) names - 0 ≡ placeFrom 0 (map lower n) names = omega arith in
       record { within = omega (arith, s.1.0); there = rw z at s.1.1 }
 

@@ -30,15 +30,15 @@ module _ (p s : List ℕ) (k i : ℕ) where
   counted-out h = rw (suffix-out s i h, matched-none (drop k p)) (omega arith)
 
   module _ (h : k < length p) (l : i < length s) where
-    at_byte : counted ≡ k + pick (eqb (get_or s i 0) (get_or p k 0)) (suc (matched (drop (k + 1) p) (drop (i + 1) s))) 0
+    at-byte : counted ≡ k + pick (eqb (get_or s i 0) (get_or p k 0)) (suc (matched (drop (k + 1) p) (drop (i + 1) s))) 0
     unfolding matched
-    at_byte = rw (suffix-in p k h, suffix-in s i l)
+    at-byte = rw (suffix-in p k h, suffix-in s i l)
 
-    pub counted_next : get_or s i 0 ≡ get_or p k 0 → k + 1 + matched (drop (k + 1) p) (drop (i + 1) s) ≡ counted
-    counted_next e = let m : ℕ = matched (drop (k + 1) p) (drop (i + 1) s) in let z : k + 1 + m ≡ k + suc m = omega arith in z ∙ sym (simp (eq-eqb _ _ e) at at_byte)
+    pub counted-next : get_or s i 0 ≡ get_or p k 0 → k + 1 + matched (drop (k + 1) p) (drop (i + 1) s) ≡ counted
+    counted-next e = let m : ℕ = matched (drop (k + 1) p) (drop (i + 1) s) in let z : k + 1 + m ≡ k + suc m = omega arith in z ∙ sym (simp (eq-eqb _ _ e) at at-byte)
 
     pub counted-unlike : (get_or s i 0 ≡ get_or p k 0 → ⊥) → counted ≡ k
-    counted-unlike n = (simp (ne_eqb _ _ n) at at_byte) ∙ omega arith
+    counted-unlike n = (simp (ne_eqb _ _ n) at at-byte) ∙ omega arith
 
 -- ---- the CDATA prefix
 pub cdata-size : length cdataPrefix ≡ 6

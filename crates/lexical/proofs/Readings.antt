@@ -3,7 +3,7 @@
 use Rattle.std.proofs.Common.{◌≡◌, ℕ, zero, suc, ◌+◌, ◌-◌, ◌^◌, ◌<◌, ◌≤◌, false, eqb, List, ◌∷◌, sym, refl, ap, ◌∙◌, arith, ne_eqb, eqb-true}
 use Rattle.lexical.specs.Text.{byte, first}
 use Rattle.lexical.specs.Line.{endsLine}
-use Rattle.lexical.specs.Point.{plus, point, tabReadings, tabRead, actionAt, nextByte, nextReading, moved, passed, readings, read_on}
+use Rattle.lexical.specs.Point.{plus, point, tabReadings, tabRead, actionAt, nextByte, nextReading, moved, passed, readings, readOn}
 use Rattle.lexical.specs.declared.event.Point.{Point}
 use Rattle.lexical.proofs.Cases.{split}
 
@@ -27,13 +27,13 @@ module _ (p : Point) (xs : List ℕ) where
 
 -- a tab with n readings more after this one
 tab-on : (n : ℕ) (p : Point) (xs : List ℕ) → tabReadings p.column ≡ suc n → 1 ≤ p.column → p.column + suc n < 2 ^ 64
-    → read_on (suc n) p (byte "\t" ∷ xs) ≡ nextByte p (suc n)
-unfolding read_on
+    → readOn (suc n) p (byte "\t" ∷ xs) ≡ nextByte p (suc n)
+unfolding readOn
 tab-on zero p xs e l h = tab-last p xs e
 tab-on (suc n) p xs e l h =
     let w : plus p.column 1 ≡ p.column + 1 = omega arith in
     let sum : plus (plus p.column 1) (suc n) ≡ plus p.column (suc (suc n)) = omega arith in
-    ap (λ q. read_on (suc n) q (byte "\t" ∷ xs)) (tab-step p xs n e)
+    ap (λ q. readOn (suc n) q (byte "\t" ∷ xs)) (tab-step p xs n e)
     ∙ tab-on n (nextReading p) xs (tab-less p.column n e l (omega arith)) (omega arith) (omega arith)
     ∙ ap (λ k. point p.line k (plus p.index 1) 0) sum
 
@@ -45,8 +45,8 @@ pub tab-most : (c : ℕ) → tabReadings c ≤ 4
 unfolding tabReadings
 tab-most c = omega arith
 
-read-once : (p : Point) (s : List ℕ) → read_on 1 p s ≡ moved p (actionAt p s)
-unfolding read_on
+read-once : (p : Point) (s : List ℕ) → readOn 1 p s ≡ moved p (actionAt p s)
+unfolding readOn
 read-once p s = refl
 
 -- any other byte is read once
@@ -63,7 +63,7 @@ tab-passed p xs = refl
 
 -- 01: all readings of a byte lead past it; columns count from 1, and stay far below the largest number
 pub by-readings : (p : Point) (x : ℕ) (xs : List ℕ) → 1 ≤ p.column → p.column + 4 < 2 ^ 64
-    → read_on (readings p.column (x ∷ xs)) p (x ∷ xs) ≡ passed p (x ∷ xs)
+    → readOn (readings p.column (x ∷ xs)) p (x ∷ xs) ≡ passed p (x ∷ xs)
 unfolding readings
 by-readings p x xs l h =
     split (eqb x (byte "\t"))
@@ -72,7 +72,7 @@ by-readings p x xs l h =
     (let n = tabReadings p.column - 1 in
     let e = tab-some p.column in
     let m = tab-most p.column in
-    ap (λ k. read_on k p (byte "\t" ∷ xs)) e
+    ap (λ k. readOn k p (byte "\t" ∷ xs)) e
     ∙ tab-on n p xs e l (omega arith)
     ∙ ap (λ k. nextByte p k) (sym e)
     ∙ sym (tab-passed p xs)))

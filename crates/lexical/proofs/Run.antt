@@ -4,7 +4,7 @@ use Rattle.lexical.specs.Text.{byte, run}
 use Rattle.lexical.specs.Byte.{isLineEndingByte}
 use Rattle.lexical.specs.Line.{isInner, lineLength}
 use Rattle.lexical.specs.Name.{all}
-use Rattle.lexical.proofs.Cases.{split, and_left, and_right, and_yes, and_no}
+use Rattle.lexical.proofs.Cases.{split, and-left, and-right, and-yes, and-no}
 use Rattle.lexical.proofs.Suffix.{suffix-in, suffix-out}
 
 -- where the run of a class that begins at an index of a text ends
@@ -12,9 +12,9 @@ abbrev pub runEnd : (ℕ → Bool) → List ℕ → ℕ → ℕ
 runEnd f s i = i + run f (drop i s)
 
 module _ (f : ℕ → Bool) (s : List ℕ) (i : ℕ) where
-  pub run_on : i < length s → f (get_or s i 0) ≡ true → runEnd f s (i + 1) ≡ runEnd f s i
+  pub run-on : i < length s → f (get_or s i 0) ≡ true → runEnd f s (i + 1) ≡ runEnd f s i
   unfolding run
-  run_on h e = rw (suffix-in s i h, e) (omega arith)
+  run-on h e = rw (suffix-in s i h, e) (omega arith)
 
   pub run-stop : i < length s → f (get_or s i 0) ≡ false → runEnd f s i ≡ i
   unfolding run
@@ -25,10 +25,10 @@ module _ (f : ℕ → Bool) (s : List ℕ) (i : ℕ) where
   run-over h = rw (suffix-out s i h) (omega arith)
 
 -- no more bytes are passed than there are
-pub run_length : (f : ℕ → Bool) (s : List ℕ) → run f s ≤ length s
+pub run-length : (f : ℕ → Bool) (s : List ℕ) → run f s ≤ length s
 unfolding run
-run_length f [] = omega arith
-run_length f (x ∷ xs) = split (f x) (λ h. let l = run_length f xs in simp h (omega arith)) (λ h. simp h (omega arith))
+run-length f [] = omega arith
+run-length f (x ∷ xs) = split (f x) (λ h. let l = run-length f xs in simp h (omega arith)) (λ h. simp h (omega arith))
 
 -- two classes that are the same
 pub run-same : (f g : ℕ → Bool) → ((x : ℕ) → f x ≡ g x) → (s : List ℕ) → run f s ≡ run g s
@@ -60,7 +60,7 @@ unfolding run all
 many f zero s l h = omega arith
 many f (suc n) [] l h = absurd (omega arith)
 many f (suc n) (x ∷ s) l h =
-    let e = many f n s (omega arith) (and_right (f x) (all f (take n s)) h) in rw (and_left (f x) (all f (take n s)) h) (omega (arith, e))
+    let e = many f n s (omega arith) (and-right (f x) (all f (take n s)) h) in rw (and-left (f x) (all f (take n s)) h) (omega (arith, e))
 
 pub run-many : (f : ℕ → Bool) (n : ℕ) (s : List ℕ) (i : ℕ) → i + n ≤ length s → all f (take n (drop i s)) ≡ true → runEnd f s (i + n) ≡ runEnd f s i
 run-many f n s i l h =
@@ -92,7 +92,7 @@ all-eight f s i h =
     ∙ ap (λ b. f (get_or s (i + 5) 0) && b)
     (one f 1 s (i + 6) (i + 7) (omega arith) (omega arith)
     ∙ ap (λ b. f (get_or s (i + 6) 0) && b)
-    (one f 0 s (i + 7) (i + 8) (omega arith) (omega arith) ∙ and_yes (f (get_or s (i + 7) 0)))))))))
+    (one f 0 s (i + 7) (i + 8) (omega arith) (omega arith) ∙ and-yes (f (get_or s (i + 7) 0)))))))))
 
 -- ---- three tests for all bytes, or three for each of them
 -- no byte is another
@@ -104,8 +104,8 @@ unfolding all
 all-inner mark [] = refl
 all-inner mark (x ∷ xs) =
     split (eqb x mark) (λ h. simp h)
-    (λ h. split (eqb x (byte "\n")) (λ l. simp (h, l) (sym (and_no (others mark xs))))
-    (λ l. split (eqb x (byte "\r")) (λ r. simp (h, l, r) (sym (ap (λ b. others mark xs && b) (and_no (others (byte "\n") xs)) ∙ and_no (others mark xs))))
+    (λ h. split (eqb x (byte "\n")) (λ l. simp (h, l) (sym (and-no (others mark xs))))
+    (λ l. split (eqb x (byte "\r")) (λ r. simp (h, l, r) (sym (ap (λ b. others mark xs && b) (and-no (others (byte "\n") xs)) ∙ and-no (others mark xs))))
     (λ r. simp (h, l, r) (all-inner mark xs))))
 
 -- ---- with a mark that is a byte of a line ending, only those are looked for

@@ -26,8 +26,8 @@ stores l i j [] b e = let z : j ≡ i = omega arith in rw z
 stores l i j (x ∷ a) b e = stores (set l i x) (suc i) j a b (omega arith)
 
 -- stored from the front
-pub from_front : (bs l : List ℕ) → length bs ≤ length l → stored l 0 bs ≡ bs ++ drop (length bs) l
-from_front bs l h = is-sets l 0 bs ∙ (let e = sets-eq bs l 0 (omega arith) in rw (zero-add) at e)
+pub from-front : (bs l : List ℕ) → length bs ≤ length l → stored l 0 bs ≡ bs ++ drop (length bs) l
+from-front bs l h = is-sets l 0 bs ∙ (let e = sets-eq bs l 0 (omega arith) in rw (zero-add) at e)
 
 -- ---- a loop that copies a part, at its i-th byte
 module _ (l part : List ℕ) (at i : ℕ) where
@@ -41,25 +41,25 @@ module _ (l part : List ℕ) (at i : ℕ) where
   copy-end h = rw (suffix-out part i h)
 
 -- ---- the length stays
-pub same_set : (l : List ℕ) (i x : ℕ) → length (set l i x) ≡ length l
-same_set l i x = length-set l i x
+pub same-set : (l : List ℕ) (i x : ℕ) → length (set l i x) ≡ length l
+same-set l i x = length-set l i x
 
 pub same : {l m : List ℕ} {i : ℕ} {bs : List ℕ} → Written l i bs m → length m ≡ length l
 same {l} {m} {i} {bs} w = ap length (w.is ∙ is-sets l i bs) ∙ length-sets l i bs
 
 -- ---- writings
-pub nothing_written : {l : List ℕ} {i : ℕ} → Written l i [] l
+pub nothing-written : {l : List ℕ} {i : ℕ} → Written l i [] l
 unfolding stored
-nothing_written = record { is = refl }
+nothing-written = record { is = refl }
 
 -- one writing behind the other
 pub then : {l m n : List ℕ} {i j : ℕ} {a b : List ℕ} → j ≡ i + length a → Written l i a m → Written m j b n → Written l i (a ++ b) n
 then {l} {m} {n} {i} {j} {a} {b} e v w = record { is = w.is ∙ ap (λ k. stored k j b) v.is ∙ stores l i j a b e }
 
 -- the same bytes by another name
-pub written_as : {l m : List ℕ} {i : ℕ} {a : List ℕ} (b : List ℕ) → b ≡ a → Written l i a m → Written l i b m
-written_as {l} {m} {i} {a} b e w = record { is = w.is ∙ ap (stored l i) (sym e) }
+pub written-as : {l m : List ℕ} {i : ℕ} {a : List ℕ} (b : List ℕ) → b ≡ a → Written l i a m → Written l i b m
+written-as {l} {m} {i} {a} b e w = record { is = w.is ∙ ap (stored l i) (sym e) }
 
 -- what is written as far as there is room, and has room, is written whole
 pub written-whole : {l m : List ℕ} {i : ℕ} (bs : List ℕ) → i + length bs ≤ length l → Written l i (take (length l - i) bs) m → Written l i bs m
-written-whole {l} {m} {i} bs h w = written_as bs (sym (take_all (length l - i) bs (omega arith))) w
+written-whole {l} {m} {i} bs h w = written-as bs (sym (take_all (length l - i) bs (omega arith))) w

@@ -16,16 +16,16 @@ module _ (s : List ℕ) (i : ℕ) where
   pub first-in : i < length s → first (drop i s) ≡ get_or s i 0
   first-in h = rw (suffix-in h)
 
-  pub first_out : length s ≤ i → first (drop i s) ≡ none
-  first_out h = rw (suffix-out h)
+  pub first-out : length s ≤ i → first (drop i s) ≡ none
+  first-out h = rw (suffix-out h)
 
 -- the bytes between two indices, as far as there are any
 module _ (s : List ℕ) (a e : ℕ) where
-  pub part_none : e ≤ a → take (e - a) (drop a s) ≡ []
-  part_none h = let z : e - a ≡ 0 = omega arith in rw z
+  pub part-none : e ≤ a → take (e - a) (drop a s) ≡ []
+  part-none h = let z : e - a ≡ 0 = omega arith in rw z
 
-  pub part_out : length s ≤ a → take (e - a) (drop a s) ≡ []
-  part_out h = rw (suffix-out s a h) (take-nil (e - a))
+  pub part-out : length s ≤ a → take (e - a) (drop a s) ≡ []
+  part-out h = rw (suffix-out s a h) (take-nil (e - a))
 
   pub part-rest : length s ≤ e → take (e - a) (drop a s) ≡ take (length s - a) (drop a s)
   part-rest h = take_all (e - a) (drop a s) (rw length-drop (omega arith)) ∙ sym (take_all (length s - a) (drop a s) (rw length-drop (omega arith)))

@@ -71,9 +71,9 @@ moved p skipped = skipByte p
 moved p noByte = p
 
 -- n readings further at the same byte
-unfoldable pub read_on : ℕ → Point → List ℕ → Point
-read_on zero p s = p
-read_on (suc n) p s = read_on n (moved p (actionAt p s)) s
+unfoldable pub readOn : ℕ → Point → List ℕ → Point
+readOn zero p s = p
+readOn (suc n) p s = readOn n (moved p (actionAt p s)) s
 
 -- how often the first byte of s is read at column c
 unfoldable pub readings : ℕ → List ℕ → ℕ

@@ -46,7 +46,7 @@ module _ {M : Type 1} {𝓤 : Ura M} (𝓛 : Logic 𝓤) where
     stands =
         qed 𝓛 (‵ ((mem (row D)).own_at r l 0) ∷ []) ∵ fpick ! (λ vs. fsplit ! $
         spelt ! (row D) (Is (row D)) (shows 𝓛 (row D)) (LL.vals D L) (LL.tells D L) full_share r vs l 0 $
-        use1 𝓛 (‵ (cell (LL.val D L r))) (𝓛.laws.raw_at full_share (layout (shape D)) l 0 (LL.val D L r)) $ fjoin ! $ done !)
+        use1 𝓛 (‵ (cell (LL.val D L r))) (𝓛.laws.raw-at full_share (layout (shape D)) l 0 (LL.val D L r)) $ fjoin ! $ done !)
 
   module _ (ρ : Rules) (n : ℕ) (ρ-is : Is G.the_row ρ (vg ρ ∷ [])) (n-fits : n < 2 ^ 8) where
     -- what is passed beside the rules and a byte

@@ -6,12 +6,12 @@ use Prim.Native.Nat.{ℕ, ◌+◌, ◌<◌}
 use lib.ListN.{length, get_or, drop}
 use Rattle.rules.specs.Inline.{Read, takes, lacks}
 use Rattle.rules.specs.declared.Rules.{Rules}
-use Rattle.html.specs.TextMachine.{step_of, follow, run_of}
+use Rattle.html.specs.TextMachine.{stepOf, follow, runOf}
 use Rattle.html.specs.declared.tokenizer.StateName.{StateName}
 use Rattle.html.specs.declared.tokenizer.State.{State}
 use Rattle.html.specs.declared.tokenizer.State.TheVariants as state
 use Rattle.html.proofs.Turn.{turn}
-use Rattle.reader.specs.Lent.{scanner, put_of, taken_of, scannerOf}
+use Rattle.reader.specs.Lent.{scanner, putOf, takenOf, scannerOf}
 use Rattle.reader.specs.declared.html_text.Scanner.{Scanner}
 use Rattle.reader.specs.declared.html_text.Status.{Status}
 use Rattle.reader.specs.declared.html_text.Status.TheVariants.{Going, Ok, Nok}
@@ -29,17 +29,17 @@ isOk Nok = false
 
 -- what is left of a run, by the scanner that a state's answer makes
 module _ (s : StateName) (k : ℕ) (xs : List ℕ) (go : StateName → ℕ → Read) where
-  goes : (a : State) → (put_of s k a).status ≡ Going → follow a k xs go ≡ go (put_of s k a).state (put_of s k a).size
+  goes : (a : State) → (putOf s k a).status ≡ Going → follow a k xs go ≡ go (putOf s k a).state (putOf s k a).size
   goes (state.Next s' k') h = refl
   goes state.Ok h = let z : false ≡ true = ap isGoing h in cc
   goes state.Nok h = let z : false ≡ true = ap isGoing h in cc
 
-  took : (a : State) → (put_of s k a).status ≡ Ok → follow a k xs go ≡ takes xs k
+  took : (a : State) → (putOf s k a).status ≡ Ok → follow a k xs go ≡ takes xs k
   took (state.Next s' k') h = let z : false ≡ true = ap isOk h in cc
   took state.Ok h = refl
   took state.Nok h = let z : false ≡ true = ap isOk h in cc
 
-  missed : (a : State) → (put_of s k a).status ≡ Nok → follow a k xs go ≡ lacks k
+  missed : (a : State) → (putOf s k a).status ≡ Nok → follow a k xs go ≡ lacks k
   missed (state.Next s' k') h = let z : true ≡ false = ap isGoing h in cc
   missed state.Ok h = let z : true ≡ false = ap isOk h in cc
   missed state.Nok h = refl
@@ -50,22 +50,22 @@ module _ (ρ : Rules) (text : List ℕ) (s : StateName) (k i : ℕ) (r : Scanner
   xs = drop (i + 1) text
 
   abbrev a : State
-  a = step_of ρ s k (get_or text i 0)
+  a = stepOf ρ s k (get_or text i 0)
 
   abbrev rest : StateName → ℕ → Read
-  rest s' k' = run_of ρ s' k' xs
+  rest s' k' = runOf ρ s' k' xs
 
-  made : r ≡ put_of s k a
-  unfolding scannerOf taken_of
+  made : r ≡ putOf s k a
+  unfolding scannerOf takenOf
   made = e
 
-  pub going : r.status ≡ Going → run_of ρ s k (drop i text) ≡ run_of ρ r.state r.size xs
+  pub going : r.status ≡ Going → runOf ρ s k (drop i text) ≡ runOf ρ r.state r.size xs
   going g =
       turn ρ text s k i a h refl ∙ goes s k xs rest a (sym (ap (λ (t : Scanner). t.status) made) ∙ g)
-      ∙ ap (λ (t : Scanner). run_of ρ t.state t.size xs) (sym made)
+      ∙ ap (λ (t : Scanner). runOf ρ t.state t.size xs) (sym made)
 
-  pub taken : r.status ≡ Ok → run_of ρ s k (drop i text) ≡ takes xs k
+  pub taken : r.status ≡ Ok → runOf ρ s k (drop i text) ≡ takes xs k
   taken g = turn ρ text s k i a h refl ∙ took s k xs rest a (sym (ap (λ (t : Scanner). t.status) made) ∙ g)
 
-  pub lacking : r.status ≡ Nok → run_of ρ s k (drop i text) ≡ lacks k
+  pub lacking : r.status ≡ Nok → runOf ρ s k (drop i text) ≡ lacks k
   lacking g = turn ρ text s k i a h refl ∙ missed s k xs rest a (sym (ap (λ (t : Scanner). t.status) made) ∙ g)

@@ -4,7 +4,7 @@ ghost use Rattle.rules.specs.Block.{closes};
 ghost use Rattle.flow.specs.Answer.{kindNumber};
 ghost use Rattle.flow.specs.ContinuationMachine.{meetsOf};
 ghost use Rattle.flow.specs.declared.html_flow.ContinuationName.TheVariants.{Continuation};
-ghost use Rattle.reader.specs.Lent.{line_of};
+ghost use Rattle.reader.specs.Lent.{lineOf};
 
 use flow::html_flow::{ContinuationName, Kind, continuation_step, is_close};
 use rules::Rules;
@@ -18,7 +18,7 @@ pub struct Line {
 
 // The line after a byte.
 fn next(line: Line, rules: Rules, b: u8) -> Line
-    ensures { result ≡ line_of rules line b }
+    ensures { result ≡ lineOf rules line b }
 {
     let kind = line.kind;
     let name = line.name;
@@ -30,7 +30,7 @@ fn next(line: Line, rules: Rules, b: u8) -> Line
 
 // The line lent: taken apart, the covered step, the fields stored back.
 pub fn step(line: &mut Line, rules: Rules, b: u8)
-    ensures { line.new ≡ line_of rules line.old b }
+    ensures { line.new ≡ lineOf rules line.old b }
 {
     let after = next(
         Line {
@@ -46,7 +46,7 @@ pub fn step(line: &mut Line, rules: Rules, b: u8)
 
 // By value over the lent step: whoever calls this one needs no walk.
 pub fn stepped(line: Line, rules: Rules, b: u8) -> Line
-    ensures { result ≡ line_of rules line b }
+    ensures { result ≡ lineOf rules line b }
 {
     let mut lent = line;
     step(&mut lent, rules, b);

@@ -2,8 +2,8 @@
 ghost use Rattle.std.specs.Prelude.{◌≡◌, ◌≤◌, length, drop};
 ghost use Rattle.rules.specs.Scan.{inlineAnswer, inlineAt};
 ghost use Rattle.html.specs.Answer.{inlineOf};
-ghost use Rattle.html.specs.TextMachine.{run_of};
-ghost use Rattle.reader.specs.Lent.{taken_of, scannerOf};
+ghost use Rattle.html.specs.TextMachine.{runOf};
+ghost use Rattle.reader.specs.Lent.{takenOf, scannerOf};
 
 use html::scan::keep;
 use html::tokenizer::{Inline, State, StateName};
@@ -27,7 +27,7 @@ pub struct Scanner {
 
 // What the state's function does with the byte.
 fn taken(state: StateName, size: u8, rules: Rules, b: u8) -> Scanner
-    ensures { result ≡ taken_of rules state size b }
+    ensures { result ≡ takenOf rules state size b }
 {
     match html::tokenizer::step(rules, state, size, b) {
         State::Next(s, k) => Scanner {
@@ -91,7 +91,7 @@ pub fn stepped(scanner: Scanner, rules: Rules, b: u8) -> Scanner
 
 // From a state at an index to the end of the text, by the lent step: what the run of the core gives.
 fn run(rules: Rules, text: &[u8], from: usize, start: StateName, carry: u8) -> Inline
-    ensures { inlineOf result ≡ inlineAnswer (length text.now) (run_of rules start carry (drop from text.now)) }
+    ensures { inlineOf result ≡ inlineAnswer (length text.now) (runOf rules start carry (drop from text.now)) }
 {
     let mut state = start;
     let mut size = carry;

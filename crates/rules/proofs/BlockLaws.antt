@@ -11,11 +11,11 @@ use Rattle.lexical.specs.Text.{byte, bytes}
 use Rattle.lexical.proofs.Cases.{split}
 use Rattle.rules.specs.Search.{begins, before}
 use Rattle.rules.specs.Lines.{Line}
-use Rattle.rules.specs.Block.{isRawEnd, beforeEven, beforeCloser, closes, endsBefore, goesOn, kind_of, place_of, extentOf, inLast, closerAfter}
-use Rattle.rules.specs.Scan.{Found, found, foundBlock, no_block, blockFound, block_of}
+use Rattle.rules.specs.Block.{isRawEnd, beforeEven, beforeCloser, closes, endsBefore, goesOn, kindOf, placeOf, extentOf, inLast, closerAfter}
+use Rattle.rules.specs.Scan.{Found, found, foundBlock, noBlock, blockFound, blockOf}
 use Rattle.rules.specs.Closers.{Tells, CloserTells}
 use Rattle.rules.specs.declared.Rules.{Rules}
-use Rattle.rules.proofs.LineLaws.{stopFrom, stop_is}
+use Rattle.rules.proofs.LineLaws.{stopFrom, stop-is}
 
 -- ---- no more bytes stand before a closer than the line has
 before-most : (f : List ℕ → Bool) (s : List ℕ) → before f s ≤ length s
@@ -44,9 +44,9 @@ closer-most ρ k s =
 
 -- `at` is how many bytes stand before it
 module _ (ρ : Rules) (k : ℕ) (s : List ℕ) (at : ℕ) (e : at ≡ beforeCloser ρ k s) where
-  pub closes_at : at < length s → closes ρ k s ≡ true
+  pub closes-at : at < length s → closes ρ k s ≡ true
   unfolding closes
-  closes_at h = lt-ltb (beforeCloser ρ k s) (length s) (omega arith)
+  closes-at h = lt-ltb (beforeCloser ρ k s) (length s) (omega arith)
 
   pub closes-not : length s ≤ at → closes ρ k s ≡ false
   unfolding closes
@@ -74,9 +74,9 @@ abbrev pub goingOn : Rules → ℕ → ℕ → ℕ → List Line → Found
 goingOn ρ k name stop ls = found k name (stopFrom stop (goesOn ρ k ls).lines ls) (goesOn ρ k ls).closed (closerFrom ρ k stop (goesOn ρ k ls).lines ls)
 
 module _ (ρ : Rules) (k name : ℕ) where
-  pub none_left : (stop : ℕ) → goingOn ρ k name stop [] ≡ found k name stop false stop
+  pub none-left : (stop : ℕ) → goingOn ρ k name stop [] ≡ found k name stop false stop
   unfolding goesOn stopFrom closerFrom
-  none_left stop = refl
+  none-left stop = refl
 
   module _ (stop : ℕ) (l : Line) (ls : List Line) where
     pub ended : endsBefore k l ≡ true → goingOn ρ k name stop (l ∷ ls) ≡ found k name stop false stop
@@ -88,23 +88,23 @@ module _ (ρ : Rules) (k name : ℕ) where
     unfolding goesOn stopFrom closerFrom inLast
     closed-here h c = rw (h, c)
 
-    pub one_on : endsBefore k l ≡ false → closes ρ k l.content ≡ false
+    pub one-on : endsBefore k l ≡ false → closes ρ k l.content ≡ false
         → goingOn ρ k name stop (l ∷ ls) ≡ goingOn ρ k name (stop + length l.lead + length l.content) ls
     unfolding goesOn stopFrom closerFrom
-    one_on h c = rw (h, c) (rw (closer-is ρ k (goesOn ρ k ls).lines (stop + length l.lead) l ls c))
+    one-on h c = rw (h, c) (rw (closer-is ρ k (goesOn ρ k ls).lines (stop + length l.lead) l ls c))
 
 -- ---- the first line
 module _ (ρ : Rules) (k i : ℕ) (l : Line) (ls : List Line) where
   abbrev opened : Found
   opened = blockFound ρ k i l ls (extentOf ρ k l ls)
 
-  pub first-closed : closes ρ k l.content ≡ true → opened ≡ found k (place_of k l) (i + length l.content) true (i + beforeCloser ρ k l.content)
+  pub first-closed : closes ρ k l.content ≡ true → opened ≡ found k (placeOf k l) (i + length l.content) true (i + beforeCloser ρ k l.content)
   unfolding extentOf inLast
   first-closed c = rw c
 
-  pub first_goes : closes ρ k l.content ≡ false → opened ≡ goingOn ρ k (place_of k l) (i + length l.content) ls
+  pub first-goes : closes ρ k l.content ≡ false → opened ≡ goingOn ρ k (placeOf k l) (i + length l.content) ls
   unfolding extentOf
-  first_goes c = rw c (rw (stop_is (goesOn ρ k ls).lines i l ls, closer-is ρ k (goesOn ρ k ls).lines i l ls c))
+  first-goes c = rw c (rw (stop-is (goesOn ρ k ls).lines i l ls, closer-is ρ k (goesOn ρ k ls).lines i l ls c))
 
 -- ---- the closer tells
 told : {a b : Found} → a ≡ b → Tells b → Tells a
@@ -120,24 +120,24 @@ closed ρ k name i s h =
     record { within = omega arith; closed = sym (lt-ltb (i + beforeCloser ρ k s) (i + length s) (omega arith)) }
 
 going-tells : (ρ : Rules) (k name : ℕ) (ls : List Line) (stop : ℕ) → Tells (goingOn ρ k name stop ls)
-going-tells ρ k name [] stop = told (none_left ρ k name stop) (unclosed k name stop)
+going-tells ρ k name [] stop = told (none-left ρ k name stop) (unclosed k name stop)
 going-tells ρ k name (l ∷ ls) stop =
     split (endsBefore k l) (λ e. told (ended ρ k name stop l ls e) (unclosed k name stop))
     (λ e. split (closes ρ k l.content)
     (λ c. told (closed-here ρ k name stop l ls e c) (closed ρ k name (stop + length l.lead) l.content c))
-    (λ c. told (one_on ρ k name stop l ls e c) (going-tells ρ k name ls (stop + length l.lead + length l.content))))
+    (λ c. told (one-on ρ k name stop l ls e c) (going-tells ρ k name ls (stop + length l.lead + length l.content))))
 
 opened-tells : (ρ : Rules) (k i : ℕ) (l : Line) (ls : List Line) → Tells (blockFound ρ k i l ls (extentOf ρ k l ls))
 opened-tells ρ k i l ls =
-    split (closes ρ k l.content) (λ c. told (first-closed ρ k i l ls c) (closed ρ k (place_of k l) i l.content c))
-    (λ c. told (first_goes ρ k i l ls c) (going-tells ρ k (place_of k l) ls (i + length l.content)))
+    split (closes ρ k l.content) (λ c. told (first-closed ρ k i l ls c) (closed ρ k (placeOf k l) i l.content c))
+    (λ c. told (first-goes ρ k i l ls c) (going-tells ρ k (placeOf k l) ls (i + length l.content)))
 
-none_found : (b : Found) → no_block ≡ foundBlock b → ⊥
-none_found b e = let z : ◌≡◌ {A = ℕ} 0 1 = cc in omega arith
+none-found : (b : Found) → noBlock ≡ foundBlock b → ⊥
+none-found b e = let z : ◌≡◌ {A = ℕ} 0 1 = cc in omega arith
 
 pub closer-tells : CloserTells
-unfolding block_of
-closer-tells ρ i [] b e = absurd (none_found b e)
+unfolding blockOf
+closer-tells ρ i [] b e = absurd (none-found b e)
 closer-tells ρ i (l ∷ ls) b e =
-    split (eqb (kind_of ρ l) 0) (λ z. absurd (none_found b (rw z at e)))
-    (λ z. let f = rw z at e in let same : b ≡ blockFound ρ (kind_of ρ l) i l ls (extentOf ρ (kind_of ρ l) l ls) = cc in told same (opened-tells ρ (kind_of ρ l) i l ls))
+    split (eqb (kindOf ρ l) 0) (λ z. absurd (none-found b (rw z at e)))
+    (λ z. let f = rw z at e in let same : b ≡ blockFound ρ (kindOf ρ l) i l ls (extentOf ρ (kindOf ρ l) l ls) = cc in told same (opened-tells ρ (kindOf ρ l) i l ls))

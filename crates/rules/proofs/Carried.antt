@@ -9,15 +9,15 @@ use borrow.Author.Tests.{eqb-true}
 use Rattle.lexical.specs.Text.{byte, bytes, first}
 use Rattle.lexical.specs.Byte.{isLetter}
 use Rattle.lexical.specs.Name.{isBlockName, isRawName}
-use Rattle.lexical.proofs.Cases.{split, clash, and_left, and_right}
+use Rattle.lexical.proofs.Cases.{split, clash, and-left, and-right}
 use Rattle.lexical.proofs.Names.{block-stands, raw-stands}
 use Rattle.lexical.proofs.Members.{block-first, raw-first}
 use Rattle.rules.specs.Search.{choose, begins}
 use Rattle.rules.specs.Lines.{Line}
-use Rattle.rules.specs.Block.{name_of, afterName, nameEnds, startsRaw, basicName, startsBasic, startsComplete, mayStart, kind_at, indentation, kind_of, tagName, lineName, place_of}
+use Rattle.rules.specs.Block.{nameOf, afterName, nameEnds, startsRaw, basicName, startsBasic, startsComplete, mayStart, kindAt, indentation, kindOf, tagName, lineName, placeOf}
 use Rattle.rules.specs.Carried.{CarriesName}
 use Rattle.rules.specs.declared.Rules.{Rules}
-use Rattle.rules.proofs.NameLaws.{no_name}
+use Rattle.rules.proofs.NameLaws.{no-name}
 
 -- ---- the condition that holds, by the kind
 -- the kind by the tests of its conditions, in their order
@@ -42,8 +42,8 @@ told false false false false false true g = (λ h. cc, λ h. refl)
 told false false false false false false true = (λ h. cc, λ h. cc)
 told false false false false false false false = (λ h. cc, λ h. cc)
 
-kind-tells : (ρ : Rules) (f : ℕ) (s : List ℕ) → Told (startsRaw s) (startsBasic s) (kind_at ρ f s)
-unfolding kind_at
+kind-tells : (ρ : Rules) (f : ℕ) (s : List ℕ) → Told (startsRaw s) (startsBasic s) (kindAt ρ f s)
+unfolding kindAt
 kind-tells ρ f s =
     told (startsRaw s) (begins (bytes "<!--") s) (begins (bytes "<?") s) (begins (bytes "<!") s && isLetter (first (drop 2 s))) (begins (bytes "<![CDATA[") s) (startsBasic s)
     (startsComplete ρ s && mayStart ρ f)
@@ -54,34 +54,34 @@ slash-first : (s : List ℕ) → begins (bytes "</") s ≡ true → isLetter (fi
 slash-first [] h = clash false h refl
 slash-first (x ∷ []) h = refl
 slash-first (x ∷ y ∷ s) h =
-    let e = eqb-true y (byte "/") (and_left (eqb y (byte "/")) true (and_right (eqb x (byte "<")) (eqb y (byte "/") && true) h)) in rw e
+    let e = eqb-true y (byte "/") (and-left (eqb y (byte "/")) true (and-right (eqb x (byte "<")) (eqb y (byte "/") && true) h)) in rw e
 
 -- so a name of a list whose names begin with a letter is the tag's
 module _ (isName : List ℕ → Bool) (letter : (n : List ℕ) → isName n ≡ true → isLetter (first n) ≡ true) (s : List ℕ) where
-  behind-mark : isName (name_of (drop 1 s)) ≡ true → isName (tagName s) ≡ true
+  behind-mark : isName (nameOf (drop 1 s)) ≡ true → isName (tagName s) ≡ true
   behind-mark h =
-      split (begins (bytes "</") s) (λ e. clash (isName (name_of (drop 1 s))) h (no_name isName letter (drop 1 s) (slash-first s e))) (λ e. rw e h)
+      split (begins (bytes "</") s) (λ e. clash (isName (nameOf (drop 1 s))) h (no-name isName letter (drop 1 s) (slash-first s e))) (λ e. rw e h)
 
-  behind-slash : begins (bytes "</") s ≡ true → isName (name_of (drop 2 s)) ≡ true → isName (tagName s) ≡ true
+  behind-slash : begins (bytes "</") s ≡ true → isName (nameOf (drop 2 s)) ≡ true → isName (tagName s) ≡ true
   behind-slash e h = rw e h
 
 raw-name : (s : List ℕ) → startsRaw s ≡ true → isRawName (tagName s) ≡ true
 unfolding startsRaw
 raw-name s h =
     behind-mark isRawName raw-first s
-    (and_left (isRawName (name_of (drop 1 s))) (nameEnds (afterName (drop 1 s))) (and_right (begins (bytes "<") s) (isRawName (name_of (drop 1 s)) && nameEnds (afterName (drop 1 s))) h))
+    (and-left (isRawName (nameOf (drop 1 s))) (nameEnds (afterName (drop 1 s))) (and-right (begins (bytes "<") s) (isRawName (nameOf (drop 1 s)) && nameEnds (afterName (drop 1 s))) h))
 
-block-name : (s : List ℕ) → basicName s ≡ true → isBlockName (name_of s) ≡ true
-block-name s h = and_left (isBlockName (name_of s)) (nameEnds (afterName s) || begins (bytes "/>") (afterName s)) h
+block-name : (s : List ℕ) → basicName s ≡ true → isBlockName (nameOf s) ≡ true
+block-name s h = and-left (isBlockName (nameOf s)) (nameEnds (afterName s) || begins (bytes "/>") (afterName s)) h
 
 basic-name : (s : List ℕ) → startsBasic s ≡ true → isBlockName (tagName s) ≡ true
 unfolding startsBasic
 basic-name s h =
     split (begins (bytes "<") s && basicName (drop 1 s))
-    (λ e. behind-mark isBlockName block-first s (block-name (drop 1 s) (and_right (begins (bytes "<") s) (basicName (drop 1 s)) e)))
+    (λ e. behind-mark isBlockName block-first s (block-name (drop 1 s) (and-right (begins (bytes "<") s) (basicName (drop 1 s)) e)))
     (λ e.
     let t : (begins (bytes "</") s && basicName (drop 2 s)) ≡ true = rw e at h in
-    behind-slash isBlockName block-first s (and_left (begins (bytes "</") s) (basicName (drop 2 s)) t) (block-name (drop 2 s) (and_right (begins (bytes "</") s) (basicName (drop 2 s)) t)))
+    behind-slash isBlockName block-first s (and-left (begins (bytes "</") s) (basicName (drop 2 s)) t) (block-name (drop 2 s) (and-right (begins (bytes "</") s) (basicName (drop 2 s)) t)))
 
 -- ---- the line
 module _ (ρ : Rules) (l : Line) where
@@ -89,13 +89,13 @@ module _ (ρ : Rules) (l : Line) where
   s = drop (indentation l.content) l.content
 
   -- a kind other than 0 is that behind the indentation
-  inside : (k : ℕ) → eqb 0 k ≡ false → kind_of ρ l ≡ k → kind_at ρ l.flag s ≡ k
-  unfolding kind_of
+  inside : (k : ℕ) → eqb 0 k ≡ false → kindOf ρ l ≡ k → kindAt ρ l.flag s ≡ k
+  unfolding kindOf
   inside k z h =
       split (leb (indentation l.content) 3) (λ e. rw e at h) (λ e. let o : 0 ≡ k = rw e at h in clash (eqb 0 k) (rw (← o) refl) z)
 
 pub carries-name : CarriesName
-unfolding place_of
+unfolding placeOf
 carries-name = record {
   raw = λ ρ l h. raw-stands (lineName l) (raw-name (s ρ l) ((kind-tells ρ l.flag (s ρ l)).0 (inside ρ l 1 refl h)));
   basic = λ ρ l h. block-stands (lineName l) (basic-name (s ρ l) ((kind-tells ρ l.flag (s ρ l)).1 (inside ρ l 6 refl h)));

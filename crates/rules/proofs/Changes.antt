@@ -9,14 +9,14 @@ use lib.ListN.{length, drop}
 use Rattle.lexical.specs.Text.{bytes, first}
 use Rattle.lexical.specs.Byte.{isLetter}
 use Rattle.lexical.specs.Name.{isRawName}
-use Rattle.lexical.proofs.Cases.{split, clash, and_left, and_right}
+use Rattle.lexical.proofs.Cases.{split, clash, and-left, and-right}
 use Rattle.rules.specs.Reading.{Change, F1, F2, F3, F4, F5, F6, T1, T2, standard, without}
 use Rattle.rules.specs.Search.{choose, begins, Left, left, nothing}
 use Rattle.rules.specs.Tag.{blockTags, openTag, closingTag}
 use Rattle.rules.specs.Inline.{carrying, keeping, htmlTag, rawHtml, readInline}
 use Rattle.rules.specs.Lines.{Line, isInterrupt}
-use Rattle.rules.specs.Block.{name_of, startsRaw, startsBasic, fillsLine, startsComplete, mayStart, kind_at, indentation, kind_of, beforeCloser, closes, goesOn, extentOf, inLast}
-use Rattle.rules.specs.Scan.{Found, BlockAnswer, foundBlock, no_block, blockFound, block_of}
+use Rattle.rules.specs.Block.{nameOf, startsRaw, startsBasic, fillsLine, startsComplete, mayStart, kindAt, indentation, kindOf, beforeCloser, closes, goesOn, extentOf, inLast}
+use Rattle.rules.specs.Scan.{Found, BlockAnswer, foundBlock, noBlock, blockFound, blockOf}
 use Rattle.rules.specs.declared.Rules.{Rules}
 use Rattle.rules.proofs.Complete.{open-grows, open-falls}
 
@@ -78,8 +78,8 @@ module _ (ρ σ : Rules) (k : ℕ) (e : (s : List ℕ) → beforeCloser ρ k s �
   unfolding extentOf
   extent-alike l ls = simp (closes-alike, goes-alike)
 
-  pub found_alike : (i : ℕ) (l : Line) (ls : List Line) → blockFound ρ k i l ls (extentOf ρ k l ls) ≡ blockFound σ k i l ls (extentOf σ k l ls)
-  found_alike i l ls = rw (extent-alike l ls, last-alike (beforeCloser ρ k) (beforeCloser σ k) e i (extentOf σ k l ls).lines (l ∷ ls))
+  pub found-alike : (i : ℕ) (l : Line) (ls : List Line) → blockFound ρ k i l ls (extentOf ρ k l ls) ≡ blockFound σ k i l ls (extentOf σ k l ls)
+  found-alike i l ls = rw (extent-alike l ls, last-alike (beforeCloser ρ k) (beforeCloser σ k) e i (extentOf σ k l ls).lines (l ∷ ls))
 
 -- ---- kind 7
 -- whether a line opens it, where it opens no other
@@ -91,8 +91,8 @@ pub data Kinds (κ : Rules → ℕ) : Type 0 where
   fixed : (n : ℕ) → ((ρ : Rules) → κ ρ ≡ n) → Kinds κ
   bit : (f : ℕ) (s : List ℕ) → ((ρ : Rules) → κ ρ ≡ choose (seventh ρ f s) (λ _. 7) (λ _. 0)) → Kinds κ
 
-kinds-at : (f : ℕ) (s : List ℕ) → Kinds (λ ρ. kind_at ρ f s)
-unfolding kind_at
+kinds-at : (f : ℕ) (s : List ℕ) → Kinds (λ ρ. kindAt ρ f s)
+unfolding kindAt
 kinds-at f s =
     split (startsRaw s) (λ h. fixed 1 (λ ρ. simp h))
     (λ a. split (begins (bytes "<!--") s) (λ h. fixed 2 (λ ρ. simp (a, h)))
@@ -102,14 +102,14 @@ kinds-at f s =
     (λ e. split (startsBasic s) (λ h. fixed 6 (λ ρ. simp (a, b, c, d, e, h)))
     (λ g. bit f s (λ ρ. simp (a, b, c, d, e, g))))))))
 
-pub kinds : (l : Line) → Kinds (λ ρ. kind_of ρ l)
-unfolding kind_of
+pub kinds : (l : Line) → Kinds (λ ρ. kindOf ρ l)
+unfolding kindOf
 kinds l =
     split (leb (indentation l.content) 3)
     (λ h. indented h (kinds-at l.flag (drop (indentation l.content) l.content)))
     (λ h. fixed 0 (λ ρ. simp h))
   where
-    indented : leb (indentation l.content) 3 ≡ true → Kinds (λ ρ. kind_at ρ l.flag (drop (indentation l.content) l.content)) → Kinds (λ ρ. kind_of ρ l)
+    indented : leb (indentation l.content) 3 ≡ true → Kinds (λ ρ. kindAt ρ l.flag (drop (indentation l.content) l.content)) → Kinds (λ ρ. kindOf ρ l)
     indented h (fixed n e) = fixed n (λ ρ. simp h (e ρ))
     indented h (bit f s e) = bit f s (λ ρ. simp h (e ρ))
 
@@ -120,7 +120,7 @@ or-true false b h e = clash b h e
 
 module _ (f : ℕ) (s : List ℕ) where
   abbrev raw : Bool
-  raw = isRawName (name_of (drop 1 s))
+  raw = isRawName (nameOf (drop 1 s))
 
   abbrev opened : Rules → Bool
   opened ρ = fillsLine (openTag (blockTags ρ) s)
@@ -145,23 +145,23 @@ module _ (f : ℕ) (s : List ℕ) where
   -- all on takes the line: so does the standard
   pub falls : ((c : Change) → seventh (without c) f s ≡ true) → seventh standard f s ≡ true
   falls h =
-      let may : mayStart standard f ≡ true = and_right (startsComplete (without F6) s) (mayStart (without F6) f) (h F6) in
+      let may : mayStart standard f ≡ true = and-right (startsComplete (without F6) s) (mayStart (without F6) f) (h F6) in
       split closed (λ e. simp (by-closing standard e, may))
       (λ e.
-      let open_of : (c : Change) → (((without c).f3 || not raw) && opened (without c)) ≡ true = λ c. by-open (without c) e (and_left (startsComplete (without c) s) (mayStart (without c) f) (h c)) in
-      let plain : not raw ≡ true = and_left (not raw) (opened (without F3)) (open_of F3) in
-      let tag : opened standard ≡ true = open-falls s (open_of F2) (open_of F5) in
+      let open-of : (c : Change) → (((without c).f3 || not raw) && opened (without c)) ≡ true = λ c. by-open (without c) e (and-left (startsComplete (without c) s) (mayStart (without c) f) (h c)) in
+      let plain : not raw ≡ true = and-left (not raw) (opened (without F3)) (open-of F3) in
+      let tag : opened standard ≡ true = open-falls s (open-of F2) (open-of F5) in
       simp (complete-of standard (simp (plain, tag)), may))
 
   -- the standard takes the line: so does the reading without F4
   pub grows : seventh standard f s ≡ true → seventh (without F4) f s ≡ true
   grows h =
-      let may : not (isInterrupt f) ≡ true = or-true (not (isInterrupt f)) false (and_right (startsComplete standard s) (mayStart standard f) h) refl in
-      let complete = and_left (startsComplete standard s) (mayStart standard f) h in
+      let may : not (isInterrupt f) ≡ true = or-true (not (isInterrupt f)) false (and-right (startsComplete standard s) (mayStart standard f) h) refl in
+      let complete = and-left (startsComplete standard s) (mayStart standard f) h in
       split closed (λ e. simp (by-closing (without F4) e, may))
       (λ e.
       let both = by-open standard e complete in
-      let tag : opened (without F4) ≡ true = open-grows s (and_right (not raw) (opened standard) both) in
+      let tag : opened (without F4) ≡ true = open-grows s (and-right (not raw) (opened standard) both) in
       simp (complete-of (without F4) (simp tag), may))
 
 -- ---- blocks
@@ -170,22 +170,22 @@ module _ (i : ℕ) (l : Line) (ls : List Line) where
   abbrev pub foundOf : Rules → ℕ → Found
   foundOf ρ n = blockFound ρ n i l ls (extentOf ρ n l ls)
 
-  abbrev pub by_kind : Rules → ℕ → BlockAnswer
-  by_kind ρ n = choose (eqb n 0) (λ _. no_block) (λ _. foundBlock (foundOf ρ n))
+  abbrev pub byKind : Rules → ℕ → BlockAnswer
+  byKind ρ n = choose (eqb n 0) (λ _. noBlock) (λ _. foundBlock (foundOf ρ n))
 
-  pub by-kind : (ρ : Rules) (n : ℕ) → kind_of ρ l ≡ n → block_of ρ i (l ∷ ls) ≡ by_kind ρ n
-  unfolding block_of
+  pub by-kind : (ρ : Rules) (n : ℕ) → kindOf ρ l ≡ n → blockOf ρ i (l ∷ ls) ≡ byKind ρ n
+  unfolding blockOf
   by-kind ρ n e = rw e
 
-  pub by_bit : (ρ : Rules) (b : Bool) → kind_of ρ l ≡ choose b (λ _. 7) (λ _. 0)
-      → block_of ρ i (l ∷ ls) ≡ choose b (λ _. foundBlock (foundOf standard 7)) (λ _. no_block)
-  by_bit ρ true e = by-kind ρ 7 e ∙ ap foundBlock (found_alike ρ standard 7 (other-closer ρ standard 7 refl) i l ls)
-  by_bit ρ false e = by-kind ρ 0 e
+  pub by-bit : (ρ : Rules) (b : Bool) → kindOf ρ l ≡ choose b (λ _. 7) (λ _. 0)
+      → blockOf ρ i (l ∷ ls) ≡ choose b (λ _. foundBlock (foundOf standard 7)) (λ _. noBlock)
+  by-bit ρ true e = by-kind ρ 7 e ∙ ap foundBlock (found-alike ρ standard 7 (other-closer ρ standard 7 refl) i l ls)
+  by-bit ρ false e = by-kind ρ 0 e
 
   -- kinds 1 to 6 without F1 are the standard's
-  pub block-without-F1 : (n : ℕ) → ((ρ : Rules) → kind_of ρ l ≡ n) → block_of (without F1) i (l ∷ ls) ≡ block_of standard i (l ∷ ls)
+  pub block-without-F1 : (n : ℕ) → ((ρ : Rules) → kindOf ρ l ≡ n) → blockOf (without F1) i (l ∷ ls) ≡ blockOf standard i (l ∷ ls)
   block-without-F1 n e =
       by-kind (without F1) n (e (without F1))
-      ∙ ap (λ b. choose (eqb n 0) (λ _. no_block) (λ _. foundBlock b))
-      (found_alike (without F1) standard n (same-closer (without F1) standard refl n) i l ls)
+      ∙ ap (λ b. choose (eqb n 0) (λ _. noBlock) (λ _. foundBlock b))
+      (found-alike (without F1) standard n (same-closer (without F1) standard refl n) i l ls)
       ∙ sym (by-kind standard n (e standard))

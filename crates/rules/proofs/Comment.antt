@@ -7,7 +7,7 @@ use lib.Dec.{eqb}
 use lib.ListN.{length, drop}
 use borrow.Author.Tests.{eqb-true}
 use Rattle.lexical.specs.Text.{bytes}
-use Rattle.lexical.proofs.Cases.{split, clash, and_left, and_right}
+use Rattle.lexical.proofs.Cases.{split, clash, and-left, and-right}
 use Rattle.rules.specs.Search.{choose, begins, nothing, throughFirst}
 use Rattle.rules.specs.Inline.{comment}
 
@@ -15,7 +15,7 @@ use Rattle.rules.specs.Inline.{comment}
 pub begins-is : (p s : List ℕ) → begins p s ≡ true → s ≡ p ++ drop (length p) s
 begins-is [] s h = refl
 begins-is (p ∷ ps) [] h = cc
-begins-is (p ∷ ps) (x ∷ xs) h = cc (eqb-true x p (and_left (eqb x p) (begins ps xs) h), begins-is ps xs (and_right (eqb x p) (begins ps xs) h))
+begins-is (p ∷ ps) (x ∷ xs) h = cc (eqb-true x p (and-left (eqb x p) (begins ps xs) h), begins-is ps xs (and-right (eqb x p) (begins ps xs) h))
 
 -- a text that does not begin with p begins with nothing longer
 pub begins-longer : (p q s : List ℕ) → begins p s ≡ false → begins (p ++ q) s ≡ false
@@ -28,12 +28,12 @@ opened : (t : List ℕ) → comment (bytes "<!--" ++ t) ≡ throughFirst (bytes 
 unfolding comment throughFirst
 opened t = split (begins (bytes ">") t) (λ a. simp a) (λ a. split (begins (bytes "->") t) (λ b. simp (a, b)) (λ b. simp (a, b)))
 
-not_opened : (s : List ℕ) → begins (bytes "<!--") s ≡ false → comment s ≡ nothing
+not-opened : (s : List ℕ) → begins (bytes "<!--") s ≡ false → comment s ≡ nothing
 unfolding comment
-not_opened s h = simp (begins-longer (bytes "<!--") (bytes ">") s h, begins-longer (bytes "<!--") (bytes "->") s h, h)
+not-opened s h = simp (begins-longer (bytes "<!--") (bytes ">") s h, begins-longer (bytes "<!--") (bytes "->") s h, h)
 
 pub comment-is : (s : List ℕ) → comment s ≡ choose (begins (bytes "<!--") s) (λ _. throughFirst (bytes "-->") (drop 2 s)) (λ _. nothing)
 comment-is s =
     split (begins (bytes "<!--") s)
     (λ h. let e = begins-is (bytes "<!--") s h in rw e (opened (drop 4 s)))
-    (λ h. simp h (not_opened s h))
+    (λ h. simp h (not-opened s h))

@@ -10,13 +10,13 @@ use lib.ListN.{drop, length}
 use borrow.Author.Tests.{eqb-true}
 use Rattle.lexical.specs.Text.{byte, bytes, first}
 use Rattle.lexical.specs.Byte.{isDigit, isLetter, isWhitespace, isTagNameByte, isAttributeNameStart, isAttributeNameByte, isQuote, isValueExcluded, isNameStart, isValueEnd}
-use Rattle.lexical.proofs.Cases.{split, clash, and_left, and_right, and_no}
+use Rattle.lexical.proofs.Cases.{split, clash, and-left, and-right, and-no}
 use Rattle.rules.specs.Reading.{F2, F4, F5, crate, standard, without}
 use Rattle.rules.specs.Search.{choose, begins, past, Left, left, nothing}
 use Rattle.rules.specs.Tag.{Grammar, inlineTags, blockTags, tagEnd, pastQuote, specification, startsName, pastUnquoted, value, values, attributes, openTag}
 use Rattle.rules.specs.Block.{fillsLine}
 use Rattle.rules.specs.Partings.{isThere}
-use Rattle.rules.proofs.Past.{past_cases}
+use Rattle.rules.proofs.Past.{past-cases}
 
 -- a grammar by its switches: digits, no `/` in a value, `/` as its first byte all the same, further values
 abbrev grammar : Bool → Bool → Bool → Bool → Grammar
@@ -48,8 +48,8 @@ reaches : (x : ℕ) → inSlashless x ≡ true → inStandard x ≡ true
 reaches x h = split (eqb x (byte "/")) (λ e. rw (eqb-true x (byte "/") e)) (λ e. simp e (simp e at h))
 
 -- and farther only where it meets `/`
-same_stop : (x : ℕ) → eqb x (byte "/") ≡ false → inSlashless x ≡ false → inStandard x ≡ false
-same_stop x e h = simp e (simp e at h)
+same-stop : (x : ℕ) → eqb x (byte "/") ≡ false → inSlashless x ≡ false → inStandard x ≡ false
+same-stop x e h = simp e (simp e at h)
 
 twice : (s : List ℕ) → past inStandard s ≡ past inStandard (past inSlashless s)
 unfolding past
@@ -63,10 +63,10 @@ start-grows true x h =
     split (isAttributeNameStart x) (λ a. simp a) (λ a. split (isDigit x) (λ d. simp (a, d)) (λ d. simp (a, d) (simp (a, d) at h)))
 
 -- ---- no attribute or end begins with `=`
-no_sign : (g : Grammar) (n : ℕ) (s xs : List ℕ) → past isWhitespace s ≡ byte "=" ∷ xs → attributes g n s ≡ nothing
+no-sign : (g : Grammar) (n : ℕ) (s xs : List ℕ) → past isWhitespace s ≡ byte "=" ∷ xs → attributes g n s ≡ nothing
 unfolding attributes tagEnd
-no_sign g zero s xs e = refl
-no_sign g (suc n) s xs e = simp (e, and_no)
+no-sign g zero s xs e = refl
+no-sign g (suc n) s xs e = simp (e, and-no)
 
 -- a property that holds of what is left, and not where nothing is found
 module _ (P : Left → Type 0) (never : P nothing → ⊥) where
@@ -87,12 +87,12 @@ module _ (P : Left → Type 0) (never : P nothing → ⊥) where
       (λ e. split (eqb x (byte "/")) (λ k. rw (eqb-true x (byte "/") k)) (λ k. absurd (never (simp (e, k) at h))))
 
   sign : (g : Grammar) (n : ℕ) (s : List ℕ) → Yes (attributes g n) s → begins (bytes "=") (past isWhitespace s) ≡ false
-  sign g n s h = sign_at (past isWhitespace s) refl
+  sign g n s h = sign-at (past isWhitespace s) refl
     where
-      sign_at : (t : List ℕ) → past isWhitespace s ≡ t → begins (bytes "=") t ≡ false
-      sign_at [] e = refl
-      sign_at (x ∷ xs) e =
-          split (eqb x (byte "=")) (λ q. absurd (never (rw (no_sign g n s xs (rw (eqb-true x (byte "=") q) at e)) at h))) (λ q. simp q)
+      sign-at : (t : List ℕ) → past isWhitespace s ≡ t → begins (bytes "=") t ≡ false
+      sign-at [] e = refl
+      sign-at (x ∷ xs) e =
+          split (eqb x (byte "=")) (λ q. absurd (never (rw (no-sign g n s xs (rw (eqb-true x (byte "=") q) at e)) at h))) (λ q. simp q)
 
   -- ---- of blocks: the standard takes no tag that is not taken without F4
   module _ (less more : List ℕ → Left) (grows : (s : List ℕ) → Yes less s → Yes more s)
@@ -104,9 +104,9 @@ module _ (P : Left → Type 0) (never : P nothing → ⊥) where
     unquoted-grows : (v : List ℕ → Left) (t : List ℕ) → Yes less t → Yes (specification more v) t
     unquoted-grows v t h = simp (signless t h) (grows t h)
 
-    value_grows : (u v : List ℕ → Left) (s : List ℕ) → Yes (value (standardTags false) less u) s → Yes (value withoutF4 more v) s
-    value_grows u v [] h = h
-    value_grows u v (x ∷ xs) h =
+    value-grows : (u v : List ℕ → Left) (s : List ℕ) → Yes (value (standardTags false) less u) s → Yes (value withoutF4 more v) s
+    value-grows u v [] h = h
+    value-grows u v (x ∷ xs) h =
         split (isQuote x) (λ q. simp q (quote-grows (past (λ b. not (eqb b x)) xs) (simp q at h)))
         (λ q. split (isValueExcluded x) (λ a. let u = simp q at a in simp (q, u) (simp (q, u) at h))
         (λ a. let u = simp q at a in simp (q, u) (unquoted-grows v _ (simp (q, u) at h))))
@@ -114,7 +114,7 @@ module _ (P : Left → Type 0) (never : P nothing → ⊥) where
     values-grow : (m : ℕ) (s : List ℕ) → Yes (values (standardTags false) less m) s → Yes (values withoutF4 more m) s
     unfolding values
     values-grow zero s h = h
-    values-grow (suc m) s h = value_grows (values (standardTags false) less m) (values withoutF4 more m) s h
+    values-grow (suc m) s h = value-grows (values (standardTags false) less m) (values withoutF4 more m) s h
 
     specification-grows : (u v : List ℕ → Left) (s : List ℕ) → ((t : List ℕ) → Yes u t → Yes v t) → Yes (specification less u) s → Yes (specification more v) s
     specification-grows u v s f h =
@@ -127,13 +127,13 @@ module _ (P : Left → Type 0) (never : P nothing → ⊥) where
   attributes-grow (suc n) s h =
       split (isWhitespace (first s) && isNameStart false (first (past isWhitespace s)))
       (λ e.
-      let a = and_left (isWhitespace (first s)) (isNameStart false (first (past isWhitespace s))) e in
-      let b = start-grows true (first (past isWhitespace s)) (and_right (isWhitespace (first s)) (isNameStart false (first (past isWhitespace s))) e) in
+      let a = and-left (isWhitespace (first s)) (isNameStart false (first (past isWhitespace s))) e in
+      let b = start-grows true (first (past isWhitespace s)) (and-right (isWhitespace (first s)) (isNameStart false (first (past isWhitespace s))) e) in
       let t = drop 1 (past isWhitespace s) in
       let less = attributes (standardTags false) n in
       let more = attributes withoutF4 n in
       simp (a, b) (specification-grows less more (attributes-grow n) (sign (standardTags false) n) (values (standardTags false) less (length t)) (values withoutF4 more (length t)) (past isAttributeNameByte t) (values-grow less more (attributes-grow n) (sign (standardTags false) n) (length t)) (simp e at h)))
-      (λ e. let k = simp e at h in simp (end-first withoutF4 (past isWhitespace s) k, and_no) k)
+      (λ e. let k = simp e at h in simp (end-first withoutF4 (past isWhitespace s) k, and-no) k)
 
   tag-grows : (s : List ℕ) → Yes (openTag (standardTags false)) s → Yes (openTag withoutF4) s
   unfolding openTag
@@ -158,9 +158,9 @@ module _ (P : Left → Type 0) (never : P nothing → ⊥) where
     quote-falls [] g h = h
     quote-falls (x ∷ xs) g h = falls xs g h
 
-    end_falls : Yes b [] → Yes c [] → Yes more (past inStandard [])
+    end-falls : Yes b [] → Yes c [] → Yes more (past inStandard [])
     unfolding past
-    end_falls g h = falls [] g h
+    end-falls g h = falls [] g h
 
     at-slash : (xs : List ℕ) → Yes c (byte "/" ∷ xs) → Yes more (past inStandard (byte "/" ∷ xs))
     unfolding past
@@ -174,9 +174,9 @@ module _ (P : Left → Type 0) (never : P nothing → ⊥) where
     stop-falls : (s : List ℕ) → Yes b (past inSlashless s) → Yes c (past inSlashless s) → Yes more (past inStandard s)
     stop-falls s =
         rw twice
-        (past_cases (λ t. Yes b t → Yes c t → Yes more (past inStandard t)) inSlashless s end_falls
+        (past-cases (λ t. Yes b t → Yes c t → Yes more (past inStandard t)) inSlashless s end-falls
         (λ x xs e l g h. split (eqb x (byte "/")) (λ k. rw (eqb-true x (byte "/") k) (at-slash xs (rw (eqb-true x (byte "/") k) at h)))
-        (λ k. at-stop x xs (same_stop x k e) (falls (x ∷ xs) g h))))
+        (λ k. at-stop x xs (same-stop x k e) (falls (x ∷ xs) g h))))
 
     -- where a further value may follow, none does
     no-further : (m : Bool) (u : List ℕ → Left) (t : List ℕ) → P (choose m (λ _. specification b u t) (λ _. b t)) → Yes c t → Yes b t
@@ -217,8 +217,8 @@ module _ (P : Left → Type 0) (never : P nothing → ⊥) where
     attributes-fall (suc n) s g h =
         split (isWhitespace (first s) && isNameStart false (first (past isWhitespace s)))
         (λ e.
-        let a = and_left (isWhitespace (first s)) (isNameStart false (first (past isWhitespace s))) e in
-        let k = start-grows d (first (past isWhitespace s)) (and_right (isWhitespace (first s)) (isNameStart false (first (past isWhitespace s))) e) in
+        let a = and-left (isWhitespace (first s)) (isNameStart false (first (past isWhitespace s))) e in
+        let k = start-grows d (first (past isWhitespace s)) (and-right (isWhitespace (first s)) (isNameStart false (first (past isWhitespace s))) e) in
         let t = drop 1 (past isWhitespace s) in
         let b = attributes (noDigits f m) n in
         let c = attributes (noFurther f d) n in

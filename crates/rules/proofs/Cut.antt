@@ -12,7 +12,7 @@ use Rattle.lexical.specs.Text.{byte, run}
 use Rattle.lexical.specs.Byte.{isSpaceOrTab, isLineEndingByte}
 use Rattle.lexical.specs.Line.{lineEnding, lineLength}
 use Rattle.lexical.proofs.Cases.{split}
-use Rattle.lexical.proofs.Run.{run_length}
+use Rattle.lexical.proofs.Run.{run-length}
 use Rattle.lexical.proofs.Ending.{ending-length, ending-within}
 use Rattle.rules.specs.Search.{choose}
 use Rattle.rules.specs.Lines.{Line, line, push, cutLines}
@@ -41,7 +41,7 @@ cut-first e (x ∷ xs) =
 -- ---- sizes
 -- the bytes of a line
 pub content-length : (s : List ℕ) → length (take (lineLength s) s) ≡ lineLength s
-content-length s = length-take-le (lineLength s) s (run_length (λ b. not (isLineEndingByte b)) s)
+content-length s = length-take-le (lineLength s) s (run-length (λ b. not (isLineEndingByte b)) s)
 
 -- a class without line endings: its run in a text is its run in the first line
 pub run-content : (f : ℕ → Bool) → ((x : ℕ) → f x ≡ true → isLineEndingByte x ≡ false) → (s : List ℕ) → run f (take (lineLength s) s) ≡ run f s
@@ -59,7 +59,7 @@ blank-apart x h = split (eqb x (byte " ")) (λ s. space-apart x s) (λ s. let t 
 
 -- a run of a class without line endings ends with the line
 pub run-within : (f : ℕ → Bool) → ((x : ℕ) → f x ≡ true → isLineEndingByte x ≡ false) → (s : List ℕ) → run f s ≤ lineLength s
-run-within f apart s = omega (arith, run-content f apart s, run_length f (take (lineLength s) s), content-length s)
+run-within f apart s = omega (arith, run-content f apart s, run-length f (take (lineLength s) s), content-length s)
 
 -- ---- the lines behind an ending at an index of a text
 module _ (s : List ℕ) (i : ℕ) where
@@ -83,7 +83,7 @@ module _ (s : List ℕ) (i : ℕ) where
       ∙ ap (λ t. line 0 (take (lineEnding (drop i s)) (drop i s)) (take (lineLength (drop lineFrom s)) (drop lineFrom s)) ∷ behind t) (drop-drop (lineLength (drop lineFrom s)) lineFrom s))
 
   pub to-within : i ≤ length s → lineTo ≤ length s
-  to-within h = let l = ending-within s i h in omega (arith, run_length (λ b. not (isLineEndingByte b)) (drop lineFrom s), length-drop lineFrom s)
+  to-within h = let l = ending-within s i h in omega (arith, run-length (λ b. not (isLineEndingByte b)) (drop lineFrom s), length-drop lineFrom s)
 
   pub lead-length : length (take (lineEnding (drop i s)) (drop i s)) ≡ lineEnding (drop i s)
   lead-length = length-take-le (lineEnding (drop i s)) (drop i s) (ending-length (drop i s))

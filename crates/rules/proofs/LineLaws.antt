@@ -10,7 +10,7 @@ use lib.Seq.{drop-drop}
 use Rattle.lexical.specs.Text.{byte}
 use Rattle.lexical.specs.Line.{lineEnding, lineLength}
 use Rattle.lexical.proofs.Cases.{split}
-use Rattle.rules.specs.Lines.{Line, line, push, cutLines, flagged, lines_of}
+use Rattle.rules.specs.Lines.{Line, line, push, cutLines, flagged, linesOf}
 use Rattle.rules.specs.Block.{inLast, stopAfter}
 use Rattle.rules.proofs.Cut.{behind, behind-one, cut-first, lineFrom, lineTo}
 
@@ -34,8 +34,8 @@ contentFrom text from = take (lineLength (drop from text)) (drop from text)
 module _ (text flags : List ℕ) where
   -- a line and the lines behind it
   pub first-line : (i n : ℕ)
-      → lines_of (drop n flags) (drop i text) ≡ line (get_or (drop n flags) 0 0) [] (contentFrom text i) ∷ flagged (drop 1 (drop n flags)) (behind (drop (i + lineLength (drop i text)) text))
-  unfolding lines_of
+      → linesOf (drop n flags) (drop i text) ≡ line (get_or (drop n flags) 0 0) [] (contentFrom text i) ∷ flagged (drop 1 (drop n flags)) (behind (drop (i + lineLength (drop i text)) text))
+  unfolding linesOf
   first-line i n =
       ap (flagged (drop n flags)) (cut-first [] (drop i text))
       ∙ flag-first (drop n flags) [] (contentFrom text i) (behind (drop (lineLength (drop i text)) (drop i text)))
@@ -101,8 +101,8 @@ cut-sizes (x ∷ xs) = (
 )
 
 -- the lines of a text have its bytes
-pub lines-size : (flags text : List ℕ) → sizes (lines_of flags text) ≡ length text
-unfolding lines_of
+pub lines-size : (flags text : List ℕ) → sizes (linesOf flags text) ≡ length text
+unfolding linesOf
 lines-size flags text = flagged-size flags (cutLines false [] text) ∙ (cut-sizes text).0 [] ∙ omega arith
 
 -- ---- where the content of the last of n lines ends, the line before them ending at stop
@@ -117,8 +117,8 @@ stop-from stop zero ls = omega arith
 stop-from stop (suc n) [] = omega arith
 stop-from stop (suc n) (l ∷ ls) = let h = stop-from (stop + length l.lead + length l.content) n ls in omega arith
 
-pub stop_is : (n i : ℕ) (l : Line) (ls : List Line) → stopAfter i (suc n) (l ∷ ls) ≡ stopFrom (i + length l.content) n ls
+pub stop-is : (n i : ℕ) (l : Line) (ls : List Line) → stopAfter i (suc n) (l ∷ ls) ≡ stopFrom (i + length l.content) n ls
 unfolding inLast stopFrom
-stop_is zero i l ls = refl
-stop_is (suc n) i l [] = refl
-stop_is (suc n) i l (m ∷ ls) = stop_is n (i + length l.content + length m.lead) m ls
+stop-is zero i l ls = refl
+stop-is (suc n) i l [] = refl
+stop-is (suc n) i l (m ∷ ls) = stop-is n (i + length l.content + length m.lead) m ls

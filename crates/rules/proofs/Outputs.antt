@@ -16,9 +16,9 @@ module _ (output old : List ℕ) where
   unfolding writing written
   read-refused n h = record { answer = rw (output-first n (length old) output h, ne_eqb n 0 h); buffer = rw (output-first n (length old) output h, ne_eqb n 0 h) }
 
-  pub not_written : length old < length output → Writes (outputRefusal 0 (length old) output) output old (Refused 7) old
+  pub not-written : length old < length output → Writes (outputRefusal 0 (length old) output) output old (Refused 7) old
   unfolding writing written
-  not_written h = record { answer = rw (output-short (length old) output h); buffer = rw (output-short (length old) output h) }
+  not-written h = record { answer = rw (output-short (length old) output h); buffer = rw (output-short (length old) output h) }
 
   pub all-written : {new : List ℕ} (n : ℕ) → n ≡ length output → new ≡ written 0 output old → Writes 0 output old (Written n) new
   unfolding writing

@@ -13,26 +13,26 @@ use Rattle.lexical.specs.Text.{byte, bytes}
 use Rattle.lexical.specs.Byte.{isLetter}
 use Rattle.lexical.proofs.Cases.{split, clash, excluded}
 use Rattle.rules.specs.Reading.{Change, F1, F2, F3, F4, F5, F6, T1, T2, crate, standard, without}
-use Rattle.rules.specs.Search.{choose, begins, Left, left, nothing, or_else}
+use Rattle.rules.specs.Search.{choose, begins, Left, left, nothing, orElse}
 use Rattle.rules.specs.Tag.{Grammar, inlineTags, openTag, closingTag}
 use Rattle.rules.specs.Inline.{comment, instruction, declaration, carrying, htmlTag}
 use Rattle.rules.specs.Lines.{Line}
-use Rattle.rules.specs.Block.{startsComplete, kind_of}
+use Rattle.rules.specs.Block.{startsComplete, kindOf}
 use Rattle.rules.specs.Refusal.{inlineRefusal, blockRefusal}
-use Rattle.rules.specs.Scan.{InlineAnswer, foundInline, noInline, inlineAnswer, inlineAt, inlineScan, BlockAnswer, foundBlock, no_block, block_of, linesAt, blockAt, blockScan}
+use Rattle.rules.specs.Scan.{InlineAnswer, foundInline, noInline, inlineAnswer, inlineAt, inlineScan, BlockAnswer, foundBlock, noBlock, blockOf, linesAt, blockAt, blockScan}
 use Rattle.rules.specs.Changes.{Unchanged, NoneApplies}
 use Rattle.rules.specs.Rows.{sameInline, sameBlock}
 use Rattle.rules.specs.Partings.{Parts, Applies, OneApplies, onlyStandardTag, inlineListed, foundKind, onlyOneSeven, blockListed, PlacesComplete}
 use Rattle.rules.specs.declared.Rules.{Rules}
 use Rattle.rules.proofs.Comment.{comment-is}
-use Rattle.rules.proofs.Same.{told-apart, inline-self, inline-same, block-self, block_same}
+use Rattle.rules.proofs.Same.{told-apart, inline-self, inline-same, block-self, block-same}
 use Rattle.rules.proofs.Complete.{left-nothing, open-on}
-use Rattle.rules.proofs.Changes.{elsewhere, read-without-T1, read-without-T2, seventh, falls, grows, Kinds, fixed, bit, kinds, other-closer, found_alike, foundOf, by-kind, by_bit, block-without-F1}
+use Rattle.rules.proofs.Changes.{elsewhere, read-without-T1, read-without-T2, seventh, falls, grows, Kinds, fixed, bit, kinds, other-closer, found-alike, foundOf, by-kind, by-bit, block-without-F1}
 
 -- ---- inline
 -- what may stand there but an open tag
 abbrev others : List ℕ → Left
-others s = or_else (closingTag s) (λ _. or_else (comment s) (λ _. or_else (instruction s) (λ _. declaration s)))
+others s = orElse (closingTag s) (λ _. orElse (comment s) (λ _. orElse (instruction s) (λ _. declaration s)))
 
 -- where there is one, nothing else begins
 open-alone : (g : Grammar) (s t : List ℕ) → openTag g s ≡ left t → others s ≡ nothing
@@ -60,24 +60,24 @@ module _ (text : List ℕ) (i k : ℕ) where
   abbrev Place : Type 0
   Place = OneApplies scan (inlineListed s)
 
-  tag_is : (ρ : Rules) (l : Left) → openTag (inlineTags ρ) s ≡ l → htmlTag ρ s ≡ or_else l (λ _. others s)
+  tag-is : (ρ : Rules) (l : Left) → openTag (inlineTags ρ) s ≡ l → htmlTag ρ s ≡ orElse l (λ _. others s)
   unfolding htmlTag
-  tag_is ρ l e = rw e refl
+  tag-is ρ l e = rw e refl
 
   module _ (parts : Parts scan) (e : begins (bytes "<![") s ≡ false) where
-    scan-is : (ρ : Rules) (l : Left) → openTag (inlineTags ρ) s ≡ l → scan ρ ≡ inlineAnswer (length text) (carrying k (or_else l (λ _. others s)))
+    scan-is : (ρ : Rules) (l : Left) → openTag (inlineTags ρ) s ≡ l → scan ρ ≡ inlineAnswer (length text) (carrying k (orElse l (λ _. others s)))
     unfolding inlineAt
-    scan-is ρ l h = ap (inlineAnswer (length text)) (elsewhere ρ k s e ∙ ap (carrying k) (tag_is ρ l h))
+    scan-is ρ l h = ap (inlineAnswer (length text)) (elsewhere ρ k s e ∙ ap (carrying k) (tag-is ρ l h))
 
     t1-applies : Applies scan T1
     unfolding inlineAt
     t1-applies h = parts (h ∙ ap (inlineAnswer (length text)) (read-without-T1 k s e))
 
     -- what the two readings make of an open tag
-    by_tags : (a b : Left) → openTag (inlineTags crate) s ≡ a → openTag (inlineTags standard) s ≡ b → Place
-    by_tags (left t) b ha hb = absurd (parts (scan-is crate (left t) ha ∙ sym (scan-is standard (left t) (open-on t s ha))))
-    by_tags nothing nothing ha hb = absurd (parts (scan-is crate nothing ha ∙ sym (scan-is standard nothing hb)))
-    by_tags nothing (left t) ha hb =
+    by-tags : (a b : Left) → openTag (inlineTags crate) s ≡ a → openTag (inlineTags standard) s ≡ b → Place
+    by-tags (left t) b ha hb = absurd (parts (scan-is crate (left t) ha ∙ sym (scan-is standard (left t) (open-on t s ha))))
+    by-tags nothing nothing ha hb = absurd (parts (scan-is crate nothing ha ∙ sym (scan-is standard nothing hb)))
+    by-tags nothing (left t) ha hb =
         let none = scan-is crate nothing ha ∙ ap (λ (l : Left). inlineAnswer (length text) (carrying k l)) (open-alone (inlineTags standard) s t hb) in
         record { change = T1; applies = t1-applies; place = only-standard s (scan crate) (scan standard) (length text - length t) k t none (scan-is standard (left t) hb) hb }
 
@@ -86,30 +86,30 @@ module _ (text : List ℕ) (i k : ℕ) where
   inline-place parts =
       split (begins (bytes "<![") s)
       (λ e. record { change = T2; applies = λ h. parts (h ∙ ap (inlineAnswer (length text)) (read-without-T2 k s e)); place = e })
-      (λ e. by_tags parts e (openTag (inlineTags crate) s) (openTag (inlineTags standard) s) refl refl)
+      (λ e. by-tags parts e (openTag (inlineTags crate) s) (openTag (inlineTags standard) s) refl refl)
 
 -- ---- kinds 1 to 6
 module _ (i : ℕ) (l : Line) (ls : List Line) where
   abbrev block : Rules → BlockAnswer
-  block ρ = block_of ρ i (l ∷ ls)
+  block ρ = blockOf ρ i (l ∷ ls)
 
-  five : (ρ : Rules) → kind_of ρ l ≡ 5 → foundKind (block ρ) ≡ 5
+  five : (ρ : Rules) → kindOf ρ l ≡ 5 → foundKind (block ρ) ≡ 5
   five ρ e = ap foundKind (by-kind i l ls ρ 5 e)
 
   -- no kind but 5 reads F1
-  not_five : (n : ℕ) → eqb n 5 ≡ false → ((ρ : Rules) → kind_of ρ l ≡ n) → block crate ≡ block standard
-  not_five n h e =
+  not-five : (n : ℕ) → eqb n 5 ≡ false → ((ρ : Rules) → kindOf ρ l ≡ n) → block crate ≡ block standard
+  not-five n h e =
       by-kind i l ls crate n (e crate)
-      ∙ ap (λ b. choose (eqb n 0) (λ _. no_block) (λ _. foundBlock b)) (found_alike crate standard n (other-closer crate standard n h) i l ls)
+      ∙ ap (λ b. choose (eqb n 0) (λ _. noBlock) (λ _. foundBlock b)) (found-alike crate standard n (other-closer crate standard n h) i l ls)
       ∙ sym (by-kind i l ls standard n (e standard))
 
-  by-fixed : (n : ℕ) → ((ρ : Rules) → kind_of ρ l ≡ n) → Parts block → OneApplies block blockListed
+  by-fixed : (n : ℕ) → ((ρ : Rules) → kindOf ρ l ≡ n) → Parts block → OneApplies block blockListed
   by-fixed n e parts =
       split (eqb n 5)
       (λ h.
       let z = eqb-true n 5 h in
       record { change = F1; applies = λ a. parts (a ∙ block-without-F1 i l ls n e); place = rw (five crate (e crate ∙ z), five standard (e standard ∙ z)) refl })
-      (λ h. absurd (parts (not_five n h e)))
+      (λ h. absurd (parts (not-five n h e)))
 
 -- ---- kind 7
 module _ (f : ℕ) (t : List ℕ) where
@@ -120,17 +120,17 @@ module _ (f : ℕ) (t : List ℕ) where
     without-it : seventh (without change) f t ≡ false
 
   -- F1, T1 and T2 are not read
-  each_opens : seventh crate f t ≡ true → seventh (without F2) f t ≡ true → seventh (without F3) f t ≡ true → seventh (without F4) f t ≡ true → seventh (without F5) f t ≡ true
+  each-opens : seventh crate f t ≡ true → seventh (without F2) f t ≡ true → seventh (without F3) f t ≡ true → seventh (without F4) f t ≡ true → seventh (without F5) f t ≡ true
       → seventh (without F6) f t ≡ true → (c : Change) → seventh (without c) f t ≡ true
   unfolding startsComplete
-  each_opens y a2 a3 a4 a5 a6 F1 = y
-  each_opens y a2 a3 a4 a5 a6 F2 = a2
-  each_opens y a2 a3 a4 a5 a6 F3 = a3
-  each_opens y a2 a3 a4 a5 a6 F4 = a4
-  each_opens y a2 a3 a4 a5 a6 F5 = a5
-  each_opens y a2 a3 a4 a5 a6 F6 = a6
-  each_opens y a2 a3 a4 a5 a6 T1 = y
-  each_opens y a2 a3 a4 a5 a6 T2 = y
+  each-opens y a2 a3 a4 a5 a6 F1 = y
+  each-opens y a2 a3 a4 a5 a6 F2 = a2
+  each-opens y a2 a3 a4 a5 a6 F3 = a3
+  each-opens y a2 a3 a4 a5 a6 F4 = a4
+  each-opens y a2 a3 a4 a5 a6 F5 = a5
+  each-opens y a2 a3 a4 a5 a6 F6 = a6
+  each-opens y a2 a3 a4 a5 a6 T1 = y
+  each-opens y a2 a3 a4 a5 a6 T2 = y
 
   culprit : seventh crate f t ≡ true → seventh standard f t ≡ false → Culprit
   culprit y n =
@@ -139,24 +139,24 @@ module _ (f : ℕ) (t : List ℕ) where
       (λ a3. split (seventh (without F4) f t)
       (λ a4. split (seventh (without F5) f t)
       (λ a5. split (seventh (without F6) f t)
-      (λ a6. clash (seventh standard f t) (falls f t (each_opens y a2 a3 a4 a5 a6)) n)
+      (λ a6. clash (seventh standard f t) (falls f t (each-opens y a2 a3 a4 a5 a6)) n)
       (λ z. record { change = F6; listed = λ a b. refl; without-it = z }))
       (λ z. record { change = F5; listed = λ a b. refl; without-it = z }))
       (λ z. record { change = F4; listed = λ a b. refl; without-it = z }))
       (λ z. record { change = F3; listed = λ a b. refl; without-it = z }))
       (λ z. record { change = F2; listed = λ a b. refl; without-it = z })
 
-module _ (i : ℕ) (l : Line) (ls : List Line) (f : ℕ) (t : List ℕ) (e : (ρ : Rules) → kind_of ρ l ≡ choose (seventh ρ f t) (λ _. 7) (λ _. 0)) where
+module _ (i : ℕ) (l : Line) (ls : List Line) (f : ℕ) (t : List ℕ) (e : (ρ : Rules) → kindOf ρ l ≡ choose (seventh ρ f t) (λ _. 7) (λ _. 0)) where
   abbrev scan-at : Rules → BlockAnswer
-  scan-at ρ = block_of ρ i (l ∷ ls)
+  scan-at ρ = blockOf ρ i (l ∷ ls)
 
   abbrev seven : BlockAnswer
   seven = foundBlock (foundOf i l ls standard 7)
 
-  is : (ρ : Rules) (b : Bool) → seventh ρ f t ≡ b → scan-at ρ ≡ choose b (λ _. seven) (λ _. no_block)
-  is ρ b h = by_bit i l ls ρ b (e ρ ∙ ap (λ (c : Bool). choose c (λ _. 7) (λ _. 0)) h)
+  is : (ρ : Rules) (b : Bool) → seventh ρ f t ≡ b → scan-at ρ ≡ choose b (λ _. seven) (λ _. noBlock)
+  is ρ b h = by-bit i l ls ρ b (e ρ ∙ ap (λ (c : Bool). choose c (λ _. 7) (λ _. 0)) h)
 
-  apart : seven ≡ no_block → ⊥
+  apart : seven ≡ noBlock → ⊥
   apart h = clash (eqb (foundKind seven) 7) refl (ap (λ a. eqb (foundKind a) 7) h)
 
   only-crate : seventh crate f t ≡ true → seventh standard f t ≡ false → OneApplies scan-at blockListed
@@ -182,12 +182,12 @@ module _ (i : ℕ) (l : Line) (ls : List Line) (f : ℕ) (t : List ℕ) (e : (ρ
       (λ y. split (seventh standard f t) (λ z. absurd (parts (is crate true y ∙ sym (is standard true z)))) (λ n. only-crate y n))
       (λ n. split (seventh standard f t) (λ y. only-standard-seven n y) (λ z. absurd (parts (is crate false n ∙ sym (is standard false z)))))
 
-block-place : (i : ℕ) (ls : List Line) → Parts (λ ρ. block_of ρ i ls) → OneApplies (λ ρ. block_of ρ i ls) blockListed
-unfolding block_of
+block-place : (i : ℕ) (ls : List Line) → Parts (λ ρ. blockOf ρ i ls) → OneApplies (λ ρ. blockOf ρ i ls) blockListed
+unfolding blockOf
 block-place i [] parts = absurd (parts refl)
 block-place i (l ∷ ls) parts = by-kinds (kinds l)
   where
-    by-kinds : Kinds (λ ρ. kind_of ρ l) → OneApplies (λ ρ. block_of ρ i (l ∷ ls)) blockListed
+    by-kinds : Kinds (λ ρ. kindOf ρ l) → OneApplies (λ ρ. blockOf ρ i (l ∷ ls)) blockListed
     by-kinds (fixed n e) = by-fixed i l ls n e parts
     by-kinds (bit f t e) = by-seventh i l ls f t e parts
 
@@ -202,7 +202,7 @@ pub places-complete : PlacesComplete
 unfolding inlineScan blockScan blockAt
 places-complete = record {
   inline = λ text i k. unless-refused _ (λ ρ. inlineAt ρ text i k) (inlineListed (drop i text)) (inline-place text i k) (eqb (inlineRefusal text i k) 0);
-  block = λ text flags i. unless-refused _ (λ ρ. block_of ρ i (linesAt text flags i)) blockListed (block-place i (linesAt text flags i)) (eqb (blockRefusal text flags i) 0);
+  block = λ text flags i. unless-refused _ (λ ρ. blockOf ρ i (linesAt text flags i)) blockListed (block-place i (linesAt text flags i)) (eqb (blockRefusal text flags i) 0);
 }
 
 -- answers that a test tells apart: where no change applies they are the same
@@ -216,5 +216,5 @@ module _ {A : Type 0} (test : A → A → Bool) (self : (a : A) → test a a ≡
 pub none-applies : NoneApplies
 none-applies = record {
   inline = λ text i k. unchanged sameInline inline-self inline-same (λ ρ. inlineScan ρ text i k) (inlineListed (drop i text)) (places-complete.inline text i k);
-  block = λ text flags i. unchanged sameBlock block-self block_same (λ ρ. blockScan ρ text flags i) blockListed (places-complete.block text flags i);
+  block = λ text flags i. unchanged sameBlock block-self block-same (λ ρ. blockScan ρ text flags i) blockListed (places-complete.block text flags i);
 }

@@ -22,12 +22,12 @@ unfolding past
 past-none f x xs h = simp h
 
 -- what holds at the end, and at a byte outside the class with no more left than there was, holds behind the class
-pub past_cases : (P : List ℕ → Type 0) (f : ℕ → Bool) (s : List ℕ) → P []
+pub past-cases : (P : List ℕ → Type 0) (f : ℕ → Bool) (s : List ℕ) → P []
     → ((x : ℕ) (xs : List ℕ) → f x ≡ false → length (x ∷ xs) ≤ length s → P (x ∷ xs)) → P (past f s)
 unfolding past
-past_cases P f [] nil cons = nil
-past_cases P f (x ∷ xs) nil cons =
-    split (f x) (λ h. simp h (past_cases P f xs nil (λ y ys e l. cons y ys e (omega arith)))) (λ h. simp h (cons x xs h (omega arith)))
+past-cases P f [] nil cons = nil
+past-cases P f (x ∷ xs) nil cons =
+    split (f x) (λ h. simp h (past-cases P f xs nil (λ y ys e l. cons y ys e (omega arith)))) (λ h. simp h (cons x xs h (omega arith)))
 
 pub past-length : (f : ℕ → Bool) (s : List ℕ) → length (past f s) ≤ length s
 unfolding past
@@ -52,13 +52,13 @@ module _ (f : List ℕ → Bool) (s : List ℕ) (i : ℕ) where
   unfolding before
   first-here h e = let t = rw (suffix-in s i h) at e in rw (suffix-in s i h, t) (omega arith)
 
-  pub first_on : i < length s → f (drop i s) ≡ false → firstFrom ≡ i + 1 + before f (drop (i + 1) s)
+  pub first-on : i < length s → f (drop i s) ≡ false → firstFrom ≡ i + 1 + before f (drop (i + 1) s)
   unfolding before
-  first_on h e = let t = rw (suffix-in s i h) at e in rw (suffix-in s i h, t) (omega arith)
+  first-on h e = let t = rw (suffix-in s i h) at e in rw (suffix-in s i h, t) (omega arith)
 
-  pub first_out : length s ≤ i → firstFrom ≡ i
+  pub first-out : length s ≤ i → firstFrom ≡ i
   unfolding before
-  first_out h = rw (suffix-out s i h) (omega arith)
+  first-out h = rw (suffix-out s i h) (omega arith)
 
 -- a class of bytes at which the test does not hold can be passed over
 module _ (g : ℕ → Bool) (f : List ℕ → Bool) (no : (x : ℕ) (xs : List ℕ) → g x ≡ true → f (x ∷ xs) ≡ false) where
@@ -69,9 +69,9 @@ module _ (g : ℕ → Bool) (f : List ℕ → Bool) (no : (x : ℕ) (xs : List �
   pub somewhere-behind : (s : List ℕ) (i j : ℕ) → j ≡ i + run g (drop i s) → somewhere f (drop i s) ≡ somewhere f (drop j s)
   somewhere-behind = behind-at g (somewhere f) not-here
 
-  not_first : (i x : ℕ) (xs : List ℕ) → g x ≡ true → i + before f (x ∷ xs) ≡ i + 1 + before f xs
+  not-first : (i x : ℕ) (xs : List ℕ) → g x ≡ true → i + before f (x ∷ xs) ≡ i + 1 + before f xs
   unfolding before
-  not_first i x xs h = rw (no x xs h) (omega arith)
+  not-first i x xs h = rw (no x xs h) (omega arith)
 
   pub first-behind : (s : List ℕ) (i j : ℕ) → j ≡ i + run g (drop i s) → firstFrom f s i ≡ firstFrom f s j
-  first-behind = behind-from g (λ i s. i + before f s) not_first
+  first-behind = behind-from g (λ i s. i + before f s) not-first

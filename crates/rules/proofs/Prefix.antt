@@ -9,7 +9,7 @@ use lib.ListN.{length, drop}
 use borrow.Author.Tests.{eqb-true, eqb-false, eq-eqb, ne_eqb}
 use Rattle.lexical.specs.Text.{none, first}
 use Rattle.lexical.specs.Name.{cdataPrefix, matched, cdataLetters}
-use Rattle.lexical.proofs.Cases.{split, and_yes}
+use Rattle.lexical.proofs.Cases.{split, and-yes}
 use Rattle.lexical.proofs.Prefix.{cdata-size}
 use Rattle.rules.specs.Search.{begins}
 
@@ -34,7 +34,7 @@ cdata-whole s =
 -- a word of one byte
 pub one-first : (p : ℕ) (s : List ℕ) → eqb none p ≡ false → begins (p ∷ []) s ≡ eqb (first s) p
 one-first p [] e = sym e
-one-first p (x ∷ xs) e = and_yes (eqb x p)
+one-first p (x ∷ xs) e = and-yes (eqb x p)
 
 -- a word of two parts
 pub begins-parts : (p q s : List ℕ) → begins (p ++ q) s ≡ (begins p s && begins q (drop (length p) s))

@@ -6,7 +6,7 @@ use Prim.Native.Nat.{ℕ, ◌<◌, ◌≤◌}
 use lib.Dec.{eqb}
 use lib.ListN.{length}
 use borrow.Author.Tests.{eq-eqb, eqb-true, ne_eqb, lt-ltb, le-ltb}
-use Rattle.lexical.proofs.Cases.{split, clash, and_left, and_right}
+use Rattle.lexical.proofs.Cases.{split, clash, and-left, and-right}
 use Rattle.rules.specs.Search.{choose}
 use Rattle.rules.specs.Refusal.{Check, check, refusal, outputRefusal}
 
@@ -19,9 +19,9 @@ pub passes : (b : Bool) (n : ℕ) (cs : List Check) → b ≡ false → refusal 
 unfolding refusal
 passes b n cs h = rw h
 
-pub no_more : refusal [] ≡ 0
+pub no-more : refusal [] ≡ 0
 unfolding refusal
-no_more = refl
+no-more = refl
 
 -- ---- checks in front of others
 pub refused-front : (cs ds : List Check) → (refusal cs ≡ 0 → ⊥) → refusal (cs ++ ds) ≡ refusal cs
@@ -38,16 +38,16 @@ numbered (check b n ∷ cs) = not (eqb n 0) && numbered cs
 pub passed-front : (cs ds : List Check) → numbered cs ≡ true → refusal cs ≡ 0 → refusal (cs ++ ds) ≡ refusal ds
 unfolding refusal
 passed-front [] ds k h = refl
-passed-front (check true n ∷ cs) ds k h = clash (not (eqb n 0)) (and_left (not (eqb n 0)) (numbered cs) k) (ap not (eq-eqb n 0 h))
-passed-front (check false n ∷ cs) ds k h = passed-front cs ds (and_right (not (eqb n 0)) (numbered cs) k) h
+passed-front (check true n ∷ cs) ds k h = clash (not (eqb n 0)) (and-left (not (eqb n 0)) (numbered cs) k) (ap not (eq-eqb n 0 h))
+passed-front (check false n ∷ cs) ds k h = passed-front cs ds (and-right (not (eqb n 0)) (numbered cs) k) h
 
 -- where nothing is refused, no test applies
 pub not-met : (cs ds : List Check) (b : Bool) (n : ℕ) → numbered cs ≡ true → eqb n 0 ≡ false → refusal (cs ++ (check b n ∷ ds)) ≡ 0 → b ≡ false
 unfolding refusal
 not-met [] ds true n k e h = clash (eqb n 0) (eq-eqb n 0 h) e
 not-met [] ds false n k e h = refl
-not-met (check true m ∷ cs) ds b n k e h = clash (not (eqb m 0)) (and_left (not (eqb m 0)) (numbered cs) k) (ap not (eq-eqb m 0 h))
-not-met (check false m ∷ cs) ds b n k e h = not-met cs ds b n (and_right (not (eqb m 0)) (numbered cs) k) e h
+not-met (check true m ∷ cs) ds b n k e h = clash (not (eqb m 0)) (and-left (not (eqb m 0)) (numbered cs) k) (ap not (eq-eqb m 0 h))
+not-met (check false m ∷ cs) ds b n k e h = not-met cs ds b n (and-right (not (eqb m 0)) (numbered cs) k) e h
 
 -- ---- an entry that writes: the refusal of what it reads comes first; then the buffer is too short, or the output fits
 pub output-first : (n room : ℕ) (output : List ℕ) → (n ≡ 0 → ⊥) → outputRefusal n room output ≡ n
@@ -81,8 +81,8 @@ module _ {A : Type 0} (refused : ℕ → A) (answer : A) where
     pub given-passes : unless n ≡ x → n ≡ 0
     given-passes e = split (eqb n 0) (λ t. eqb-true n 0 t) (λ t. absurd (no n (rw t at e)))
 
-    pub given_is : unless n ≡ x → answer ≡ x
-    given_is e = rw (eq-eqb n 0 (given-passes e)) at e
+    pub given-is : unless n ≡ x → answer ≡ x
+    given-is e = rw (eq-eqb n 0 (given-passes e)) at e
 
   -- what comes out and is no answer is a refusal
   module _ (x : A) (no : answer ≡ x → ⊥) (n : ℕ) where

@@ -4,8 +4,8 @@ use mathlib.Core.Bool.{Bool, true, false, ◌&&◌}
 use Prim.Native.Nat.{ℕ}
 use lib.Dec.{eqb}
 use borrow.Author.Tests.{eqb-true, eq-eqb}
-use Rattle.lexical.proofs.Cases.{clash, and_left, and_right}
-use Rattle.rules.specs.Scan.{InlineAnswer, foundInline, noInline, refusedInline, Found, found, BlockAnswer, foundBlock, no_block, refusedBlock}
+use Rattle.lexical.proofs.Cases.{clash, and-left, and-right}
+use Rattle.rules.specs.Scan.{InlineAnswer, foundInline, noInline, refusedInline, Found, found, BlockAnswer, foundBlock, noBlock, refusedBlock}
 use Rattle.rules.specs.Rows.{sameBit, sameInline, sameBlock}
 
 pub told-apart : {A : Type 0} (test : A → A → Bool) (a b : A) → test a a ≡ true → test a b ≡ false → ¬ (a ≡ b)
@@ -27,7 +27,7 @@ inline-self (noInline k) = eq-eqb k k refl
 inline-self (refusedInline n k) = rw (eq-eqb n n refl, eq-eqb k k refl) refl
 
 both : (f : ℕ → ℕ → InlineAnswer) (s t k l : ℕ) → (eqb s t && eqb k l) ≡ true → f s k ≡ f t l
-both f s t k l h = rw (eqb-true s t (and_left (eqb s t) (eqb k l) h), eqb-true k l (and_right (eqb s t) (eqb k l) h)) refl
+both f s t k l h = rw (eqb-true s t (and-left (eqb s t) (eqb k l) h), eqb-true k l (and-right (eqb s t) (eqb k l) h)) refl
 
 pub inline-same : (a b : InlineAnswer) → sameInline a b ≡ true → a ≡ b
 inline-same (foundInline s k) (foundInline t l) h = both foundInline s t k l h
@@ -44,7 +44,7 @@ inline-same (refusedInline m k) (refusedInline n l) h = both refusedInline m n k
 pub block-self : (a : BlockAnswer) → sameBlock a a ≡ true
 block-self (foundBlock b) =
     rw (eq-eqb b.kind b.kind refl, eq-eqb b.name b.name refl, eq-eqb b.stop b.stop refl, bit-self b.closed, eq-eqb b.closer b.closer refl) refl
-block-self no_block = refl
+block-self noBlock = refl
 block-self (refusedBlock n) = eq-eqb n n refl
 
 found-same : (a b : Found) → sameBlock (foundBlock a) (foundBlock b) ≡ true → a ≡ b
@@ -54,27 +54,27 @@ found-same a b h =
     let stop = eqb a.stop b.stop in
     let closed = sameBit a.closed b.closed in
     let closer = eqb a.closer b.closer in
-    let behind-kind = and_right kind (name && (stop && (closed && closer))) h in
-    let behind-name = and_right name (stop && (closed && closer)) behind-kind in
-    let behind-stop = and_right stop (closed && closer) behind-name in
+    let behind-kind = and-right kind (name && (stop && (closed && closer))) h in
+    let behind-name = and-right name (stop && (closed && closer)) behind-kind in
+    let behind-stop = and-right stop (closed && closer) behind-name in
     fields
-    (eqb-true a.kind b.kind (and_left kind (name && (stop && (closed && closer))) h))
-    (eqb-true a.name b.name (and_left name (stop && (closed && closer)) behind-kind))
-    (eqb-true a.stop b.stop (and_left stop (closed && closer) behind-name))
-    (bit-same a.closed b.closed (and_left closed closer behind-stop))
-    (eqb-true a.closer b.closer (and_right closed closer behind-stop))
+    (eqb-true a.kind b.kind (and-left kind (name && (stop && (closed && closer))) h))
+    (eqb-true a.name b.name (and-left name (stop && (closed && closer)) behind-kind))
+    (eqb-true a.stop b.stop (and-left stop (closed && closer) behind-name))
+    (bit-same a.closed b.closed (and-left closed closer behind-stop))
+    (eqb-true a.closer b.closer (and-right closed closer behind-stop))
   where
     fields : a.kind ≡ b.kind → a.name ≡ b.name → a.stop ≡ b.stop → a.closed ≡ b.closed → a.closer ≡ b.closer
         → found a.kind a.name a.stop a.closed a.closer ≡ found b.kind b.name b.stop b.closed b.closer
     fields k n s c t = rw (k, n, s, c, t) refl
 
-pub block_same : (a b : BlockAnswer) → sameBlock a b ≡ true → a ≡ b
-block_same (foundBlock a) (foundBlock b) h = ap foundBlock (found-same a b h)
-block_same (foundBlock a) no_block h = clash false h refl
-block_same (foundBlock a) (refusedBlock n) h = clash false h refl
-block_same no_block (foundBlock b) h = clash false h refl
-block_same no_block no_block h = refl
-block_same no_block (refusedBlock n) h = clash false h refl
-block_same (refusedBlock m) (foundBlock b) h = clash false h refl
-block_same (refusedBlock m) no_block h = clash false h refl
-block_same (refusedBlock m) (refusedBlock n) h = ap refusedBlock (eqb-true m n h)
+pub block-same : (a b : BlockAnswer) → sameBlock a b ≡ true → a ≡ b
+block-same (foundBlock a) (foundBlock b) h = ap foundBlock (found-same a b h)
+block-same (foundBlock a) noBlock h = clash false h refl
+block-same (foundBlock a) (refusedBlock n) h = clash false h refl
+block-same noBlock (foundBlock b) h = clash false h refl
+block-same noBlock noBlock h = refl
+block-same noBlock (refusedBlock n) h = clash false h refl
+block-same (refusedBlock m) (foundBlock b) h = clash false h refl
+block-same (refusedBlock m) noBlock h = clash false h refl
+block-same (refusedBlock m) (refusedBlock n) h = ap refusedBlock (eqb-true m n h)

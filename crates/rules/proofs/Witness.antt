@@ -8,12 +8,12 @@ use lib.Dec.{eqb}
 use lib.ListN.{length}
 use borrow.Author.Tests.{eqb-true, eq-eqb, not-true}
 use Rattle.lexical.specs.Name.{all, sameBytes}
-use Rattle.lexical.proofs.Cases.{and_left, and_right}
+use Rattle.lexical.proofs.Cases.{and-left, and-right}
 use Rattle.rules.specs.Reading.{Change, crate, standard, without}
 use Rattle.rules.specs.Scan.{InlineAnswer, inlineScan, BlockAnswer, blockScan}
 use Rattle.rules.specs.Partings.{Parts, Applies}
 use Rattle.rules.specs.Withhold.{count}
-use Rattle.rules.specs.Private.{isPrivate, Swap, in-line, in_block, SameRuns}
+use Rattle.rules.specs.Private.{isPrivate, Swap, in-line, in-block, SameRuns}
 use Rattle.rules.specs.Rows.{sameInline, sameBlock}
 use Rattle.rules.specs.Computing.{computing}
 use Rattle.rules.specs.Witness.{eight, Place, inText, inBulletin, only, place, agree, each-applies, Row, body, whole, one, two, flags, consists, withheld, meets, swaps, swaps-meet}
@@ -29,7 +29,7 @@ Each P (x ∷ xs) = P x × Each P xs
 each : {A : Type 0} (P : A → Type 0) (test : A → Bool) → ((x : A) → test x ≡ true → P x) → (xs : List A) → all test xs ≡ true → Each P xs
 unfolding all
 each P test f [] h = tt
-each P test f (x ∷ xs) h = (f x (and_left (test x) (all test xs) h), each P test f xs (and_right (test x) (all test xs) h))
+each P test f (x ∷ xs) h = (f x (and-left (test x) (all test xs) h), each P test f xs (and-right (test x) (all test xs) h))
 
 -- ---- demand 3
 -- where the premises are met there is a swap
@@ -38,57 +38,57 @@ SwapOf ρ r = Swap ρ (flags r) (one r) (two r)
 
 pub swap : (ρ : Rules) (r : Row) → meets ρ r ≡ true → SwapOf ρ r
 swap ρ (body k b f x y a) h =
-    let private = and_left (all isPrivate x && all isPrivate y) (withheld ρ (body k b f x y a)) h in
+    let private = and-left (all isPrivate x && all isPrivate y) (withheld ρ (body k b f x y a)) h in
     in-line
-    (record { before = b; form = f; body₁ = x; body₂ = y; after = a; private₁ = and_left (all isPrivate x) (all isPrivate y) private; private₂ = and_right (all isPrivate x) (all isPrivate y) private; one-is = refl; two_is = refl })
-    (and_right (all isPrivate x && all isPrivate y) (withheld ρ (body k b f x y a)) h)
+    (record { before = b; form = f; body₁ = x; body₂ = y; after = a; private₁ = and-left (all isPrivate x) (all isPrivate y) private; private₂ = and-right (all isPrivate x) (all isPrivate y) private; one-is = refl; two-is = refl })
+    (and-right (all isPrivate x && all isPrivate y) (withheld ρ (body k b f x y a)) h)
 swap ρ (whole k b x y a) h =
     let r = whole k b x y a in
-    let lines = and_left (consists isPrivate r) (withheld ρ r) h in
-    let private = and_right (eqb (length x) (length y)) (all (all isPrivate) x && all (all isPrivate) y) lines in
-    in_block
-    (record { before = b; lines₁ = x; lines₂ = y; after = a; same_number = eqb-true (length x) (length y) (and_left (eqb (length x) (length y)) (all (all isPrivate) x && all (all isPrivate) y) lines); private₁ = and_left (all (all isPrivate) x) (all (all isPrivate) y) private; private₂ = and_right (all (all isPrivate) x) (all (all isPrivate) y) private; one-is = refl; two_is = refl })
-    (and_right (consists isPrivate r) (withheld ρ r) h)
+    let lines = and-left (consists isPrivate r) (withheld ρ r) h in
+    let private = and-right (eqb (length x) (length y)) (all (all isPrivate) x && all (all isPrivate) y) lines in
+    in-block
+    (record { before = b; lines₁ = x; lines₂ = y; after = a; same-number = eqb-true (length x) (length y) (and-left (eqb (length x) (length y)) (all (all isPrivate) x && all (all isPrivate) y) lines); private₁ = and-left (all (all isPrivate) x) (all (all isPrivate) y) private; private₂ = and-right (all (all isPrivate) x) (all (all isPrivate) y) private; one-is = refl; two-is = refl })
+    (and-right (consists isPrivate r) (withheld ρ r) h)
 
 pub crate-swaps : Each (SwapOf crate) swaps
-crate-swaps = each (SwapOf crate) (meets crate) (swap crate) swaps (and_left (all (meets crate) swaps) (all (meets standard) swaps) swaps-meet)
+crate-swaps = each (SwapOf crate) (meets crate) (swap crate) swaps (and-left (all (meets crate) swaps) (all (meets standard) swaps) swaps-meet)
 
 pub standard-swaps : Each (SwapOf standard) swaps
-standard-swaps = each (SwapOf standard) (meets standard) (swap standard) swaps (and_right (all (meets crate) swaps) (all (meets standard) swaps) swaps-meet)
+standard-swaps = each (SwapOf standard) (meets standard) (swap standard) swaps (and-right (all (meets crate) swaps) (all (meets standard) swaps) swaps-meet)
 
 -- ---- what a test tells apart is not equal
-same_self : (s : List ℕ) → sameBytes s s ≡ true
+same-self : (s : List ℕ) → sameBytes s s ≡ true
 unfolding sameBytes
-same_self [] = refl
-same_self (x ∷ xs) = rw (eq-eqb x x refl, same_self xs)
+same-self [] = refl
+same-self (x ∷ xs) = rw (eq-eqb x x refl, same-self xs)
 
 -- the two runs of a row do not show alike
 abbrev pub Differ : Rules → Row → Type 0
 Differ ρ r = ¬ (SameRuns ρ (flags r) (one r) (two r))
 
 differ : (ρ : Rules) (r : Row) → not (sameShown ρ r) ≡ true → Differ ρ r
-differ ρ r h s = told-apart sameBytes _ _ (same_self _) (not-true (sameShown ρ r) h) s.same_bytes
+differ ρ r h s = told-apart sameBytes _ _ (same-self _) (not-true (sameShown ρ r) h) s.same-bytes
 
 -- the row of an excluded byte
-abbrev pub row_of : Excluded → Row
-row_of (excluded b r) = r
+abbrev pub rowOf : Excluded → Row
+rowOf (excluded b r) = r
 
-needed-differ : (ρ : Rules) (e : Excluded) → needed ρ e ≡ true → Differ ρ (row_of e)
-needed-differ ρ (excluded b r) h = differ ρ r (and_left (not (sameShown ρ r)) _ h)
+needed-differ : (ρ : Rules) (e : Excluded) → needed ρ e ≡ true → Differ ρ (rowOf e)
+needed-differ ρ (excluded b r) h = differ ρ r (and-left (not (sameShown ρ r)) _ h)
 
 unheld-differ : (ρ : Rules) (r : Row) → unheld ρ r ≡ true → Differ ρ r
-unheld-differ ρ r h = differ ρ r (and_left (not (sameShown ρ r)) _ h)
+unheld-differ ρ r h = differ ρ r (and-left (not (sameShown ρ r)) _ h)
 
 -- with the byte private demand 3 would be false, and so it would be of lines that run one does not withhold
-pub bytes-differ : Each (λ e. Differ crate (row_of e)) (brackets ++ bodies)
-bytes-differ = each _ (needed crate) (needed-differ crate) (brackets ++ bodies) (and_left (all (needed crate) (brackets ++ bodies)) (all (needed standard) bodies) bytes-needed)
+pub bytes-differ : Each (λ e. Differ crate (rowOf e)) (brackets ++ bodies)
+bytes-differ = each _ (needed crate) (needed-differ crate) (brackets ++ bodies) (and-left (all (needed crate) (brackets ++ bodies)) (all (needed standard) bodies) bytes-needed)
 
 pub loose-differ : Each (Differ crate) (bare ∷ loose)
-loose-differ = each (Differ crate) (unheld crate) (unheld-differ crate) (bare ∷ loose) (and_left (all (unheld crate) (bare ∷ loose)) _ enclosing-needed)
+loose-differ = each (Differ crate) (unheld crate) (unheld-differ crate) (bare ∷ loose) (and-left (all (unheld crate) (bare ∷ loose)) _ enclosing-needed)
 
 -- the count alone
 pub count-differs : Differ crate counted
-count-differs s = told-apart eqb _ _ (eq-eqb (count crate (one counted) (flags counted)) _ refl) (not-true (sameCount crate counted) (and_right (sameShown crate counted) (not (sameCount crate counted)) count-tells)) s.same_count
+count-differs s = told-apart eqb _ _ (eq-eqb (count crate (one counted) (flags counted)) _ refl) (not-true (sameCount crate counted) (and-right (sameShown crate counted) (not (sameCount crate counted)) count-tells)) s.same-count
 
 -- ---- demand 2
 inline-differ : (a b : InlineAnswer) → not (sameInline a b) ≡ true → ¬ (a ≡ b)
@@ -116,10 +116,10 @@ abbrev pub PartsAt : Place → Type 0
 PartsAt (inText text k) = Parts (λ ρ. inlineScan ρ text 0 k)
 PartsAt (inBulletin text flags) = Parts (λ ρ. blockScan ρ text flags 0)
 
-parts_at : (p : Place) → not (agree p crate standard) ≡ true → PartsAt p
-parts_at (inText text k) h = inline-differ _ _ h
-parts_at (inBulletin text flags) h = block-differ _ _ h
+parts-at : (p : Place) → not (agree p crate standard) ≡ true → PartsAt p
+parts-at (inText text k) h = inline-differ _ _ h
+parts-at (inBulletin text flags) h = block-differ _ _ h
 
 -- and so they do at the place of each change
 pub parts : (c : Change) → PartsAt (place c)
-parts c = parts_at (place c) (and_right (only c (λ d. not (agree (place c) crate (without d)))) (not (agree (place c) crate standard)) (each-applies c))
+parts c = parts-at (place c) (and-right (only c (λ d. not (agree (place c) crate (without d)))) (not (agree (place c) crate standard)) (each-applies c))

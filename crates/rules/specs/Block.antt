@@ -11,8 +11,8 @@ use Rattle.rules.specs.declared.Rules.{Rules}
 
 -- ---- start conditions, of a line behind its indentation
 -- a tag name in front, and what follows it
-abbrev pub name_of : List ℕ → List ℕ
-name_of s = take (run isTagNameByte s) s
+abbrev pub nameOf : List ℕ → List ℕ
+nameOf s = take (run isTagNameByte s) s
 
 abbrev pub afterName : List ℕ → List ℕ
 afterName s = drop (run isTagNameByte s) s
@@ -23,11 +23,11 @@ nameEnds s = atLineEnd s || (isSpaceOrTab (first s) || begins (bytes ">") s)
 
 -- 1: `<` and a raw name
 unfoldable pub startsRaw : List ℕ → Bool
-startsRaw s = begins (bytes "<") s && (isRawName (name_of (drop 1 s)) && nameEnds (afterName (drop 1 s)))
+startsRaw s = begins (bytes "<") s && (isRawName (nameOf (drop 1 s)) && nameEnds (afterName (drop 1 s)))
 
 -- a block name, followed by one of these or by `/>`
 abbrev pub basicName : List ℕ → Bool
-basicName s = isBlockName (name_of s) && (nameEnds (afterName s) || begins (bytes "/>") (afterName s))
+basicName s = isBlockName (nameOf s) && (nameEnds (afterName s) || begins (bytes "/>") (afterName s))
 
 -- 6: `<` or `</` and a block name
 unfoldable pub startsBasic : List ℕ → Bool
@@ -42,15 +42,15 @@ fillsLine nothing = false
 -- it (all else that begins with a raw name is kind 1)
 unfoldable pub startsComplete : Rules → List ℕ → Bool
 startsComplete ρ s =
-    ((ρ.f3 || not (isRawName (name_of (drop 1 s)))) && fillsLine (openTag (blockTags ρ) s)) || fillsLine (closingTag s)
+    ((ρ.f3 || not (isRawName (nameOf (drop 1 s)))) && fillsLine (openTag (blockTags ρ) s)) || fillsLine (closingTag s)
 
 -- 7 cannot interrupt a paragraph; F6: unless the line is lazy
 abbrev pub mayStart : Rules → ℕ → Bool
 mayStart ρ f = not (isInterrupt f) || (ρ.f6 && isLazy f)
 
 -- the kind whose condition holds, or 0
-unfoldable pub kind_at : Rules → ℕ → List ℕ → ℕ
-kind_at ρ f s =
+unfoldable pub kindAt : Rules → ℕ → List ℕ → ℕ
+kindAt ρ f s =
     choose (startsRaw s) (λ _. 1)
     (λ _. choose (begins (bytes "<!--") s) (λ _. 2)
     (λ _. choose (begins (bytes "<?") s) (λ _. 3)
@@ -63,30 +63,30 @@ kind_at ρ f s =
 abbrev pub indentation : List ℕ → ℕ
 indentation s = run (λ b. eqb b (byte " ")) s
 
-unfoldable pub kind_of : Rules → Line → ℕ
-kind_of ρ l =
-    choose (leb (indentation l.content) 3) (λ _. kind_at ρ l.flag (drop (indentation l.content) l.content)) (λ _. 0)
+unfoldable pub kindOf : Rules → Line → ℕ
+kindOf ρ l =
+    choose (leb (indentation l.content) 3) (λ _. kindAt ρ l.flag (drop (indentation l.content) l.content)) (λ _. 0)
 
 -- ---- 02, Ask 1: which name it was
 -- the place of a name in the list of kind 1 or 6, counted from 0; other kinds carry 255
-abbrev pub place_in : ℕ → List ℕ → ℕ
-place_in k n = choose (eqb k 1) (λ _. rawPlace n) (λ _. choose (eqb k 6) (λ _. blockPlace n) (λ _. unnamed))
+abbrev pub placeIn : ℕ → List ℕ → ℕ
+placeIn k n = choose (eqb k 1) (λ _. rawPlace n) (λ _. choose (eqb k 6) (λ _. blockPlace n) (λ _. unnamed))
 
 -- the tag name behind `</` or `<`
 abbrev pub tagName : List ℕ → List ℕ
-tagName s = choose (begins (bytes "</") s) (λ _. name_of (drop 2 s)) (λ _. name_of (drop 1 s))
+tagName s = choose (begins (bytes "</") s) (λ _. nameOf (drop 2 s)) (λ _. nameOf (drop 1 s))
 
 abbrev pub lineName : Line → List ℕ
 lineName l = tagName (drop (indentation l.content) l.content)
 
 -- of a line that opens kind k
-unfoldable pub place_of : ℕ → Line → ℕ
-place_of k l = place_in k (lineName l)
+unfoldable pub placeOf : ℕ → Line → ℕ
+placeOf k l = placeIn k (lineName l)
 
 -- ---- end conditions
 -- 1: an end tag with a raw name, which need not be the start tag's
 abbrev pub isRawEnd : List ℕ → Bool
-isRawEnd s = begins (bytes "</") s && (isRawName (name_of (drop 2 s)) && begins (bytes ">") (afterName (drop 2 s)))
+isRawEnd s = begins (bytes "</") s && (isRawName (nameOf (drop 2 s)) && begins (bytes ">") (afterName (drop 2 s)))
 
 -- F1: a maximal, even, nonempty run of `]` before `>`, of which the closer has the last two; n of it stand just before s
 unfoldable pub beforeEven : ℕ → List ℕ → ℕ

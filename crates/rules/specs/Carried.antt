@@ -2,9 +2,9 @@
 use Rattle.std.specs.Prelude.{ℕ, ◌≡◌}
 use Rattle.lexical.specs.Name.{blockNames, rawNames, StandsAt}
 use Rattle.rules.specs.Lines.{Line}
-use Rattle.rules.specs.Block.{kind_of, lineName, place_of}
+use Rattle.rules.specs.Block.{kindOf, lineName, placeOf}
 use Rattle.rules.specs.declared.Rules.{Rules}
 
 pub record CarriesName : Type 0 where
-  pub raw : (ρ : Rules) (l : Line) → kind_of ρ l ≡ 1 → StandsAt rawNames (lineName l) (place_of 1 l)
-  pub basic : (ρ : Rules) (l : Line) → kind_of ρ l ≡ 6 → StandsAt blockNames (lineName l) (place_of 6 l)
+  pub raw : (ρ : Rules) (l : Line) → kindOf ρ l ≡ 1 → StandsAt rawNames (lineName l) (placeOf 1 l)
+  pub basic : (ρ : Rules) (l : Line) → kindOf ρ l ≡ 6 → StandsAt blockNames (lineName l) (placeOf 6 l)

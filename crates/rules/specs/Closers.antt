@@ -2,7 +2,7 @@
 -- the stop.
 use Rattle.std.specs.Prelude.{ℕ, ◌≤◌, ◌≡◌, List, ltb}
 use Rattle.rules.specs.Lines.{Line}
-use Rattle.rules.specs.Scan.{Found, foundBlock, block_of}
+use Rattle.rules.specs.Scan.{Found, foundBlock, blockOf}
 use Rattle.rules.specs.declared.Rules.{Rules}
 
 pub record Tells (b : Found) : Type 0 where
@@ -10,4 +10,4 @@ pub record Tells (b : Found) : Type 0 where
   pub closed : b.closed ≡ ltb b.closer b.stop
 
 abbrev pub CloserTells : Type 0
-CloserTells = (ρ : Rules) (i : ℕ) (ls : List Line) (b : Found) → block_of ρ i ls ≡ foundBlock b → Tells b
+CloserTells = (ρ : Rules) (i : ℕ) (ls : List Line) (b : Found) → blockOf ρ i ls ≡ foundBlock b → Tells b

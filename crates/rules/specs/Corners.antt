@@ -4,11 +4,11 @@ use Rattle.lexical.specs.Text.{bytes, limit}
 use Rattle.lexical.specs.Name.{all, sameBytes}
 use Rattle.rules.specs.Reading.{crate, standard}
 use Rattle.rules.specs.Refusal.{refusal, tooLong, inlineRefusal, blockRefusal, bulletinRefusal}
-use Rattle.rules.specs.Scan.{InlineAnswer, foundInline, noInline, refusedInline, inlineScan, found, BlockAnswer, foundBlock, no_block, refusedBlock, blockScan}
+use Rattle.rules.specs.Scan.{InlineAnswer, foundInline, noInline, refusedInline, inlineScan, found, BlockAnswer, foundBlock, noBlock, refusedBlock, blockScan}
 use Rattle.rules.specs.Withhold.{shown, Shown, shows, refusedShown, withhold, written}
 use Rattle.rules.specs.Output.{Wrote, wrote, refusedWrite}
 use Rattle.rules.specs.Filter.{filtered, filter}
-use Rattle.rules.specs.Rows.{sameInline, sameBlock, inlineRow, block_row}
+use Rattle.rules.specs.Rows.{sameInline, sameBlock, inlineRow, blockRow}
 use Rattle.rules.specs.Computing.{computing}
 
 -- two answers of withholding are the same
@@ -41,21 +41,21 @@ texts =
 unfoldable pub blocks : List Bool
 blocks =
     -- F1: behind another byte a run of `]` begins anew; an empty one does not close
-    block_row (bytes "<![CDATA[]x]>") (0 ∷ []) (foundBlock (found 5 255 13 false 13))
-    ∷ block_row (bytes "<![CDATA[]x]]>") (0 ∷ []) (foundBlock (found 5 255 14 true 11))
-    ∷ block_row (bytes "<![CDATA[>") (0 ∷ []) (foundBlock (found 5 255 10 false 10))
+    blockRow (bytes "<![CDATA[]x]>") (0 ∷ []) (foundBlock (found 5 255 13 false 13))
+    ∷ blockRow (bytes "<![CDATA[]x]]>") (0 ∷ []) (foundBlock (found 5 255 14 true 11))
+    ∷ blockRow (bytes "<![CDATA[>") (0 ∷ []) (foundBlock (found 5 255 10 false 10))
     -- a raw end tag has its `>` right behind the name
-    ∷ block_row (bytes "<pre>\n</pre x>") (0 ∷ 0 ∷ []) (foundBlock (found 1 0 14 false 14))
+    ∷ blockRow (bytes "<pre>\n</pre x>") (0 ∷ 0 ∷ []) (foundBlock (found 1 0 14 false 14))
     -- a lazy line ends every kind, also where it may interrupt
-    ∷ block_row (bytes "<!--\nx") (0 ∷ 1 ∷ []) (foundBlock (found 2 255 4 false 4))
-    ∷ block_row (bytes "<!--\nx") (0 ∷ 3 ∷ []) (foundBlock (found 2 255 4 false 4))
-    ∷ block_row (bytes "<!--\nx") (0 ∷ 2 ∷ []) (foundBlock (found 2 255 6 false 6))
+    ∷ blockRow (bytes "<!--\nx") (0 ∷ 1 ∷ []) (foundBlock (found 2 255 4 false 4))
+    ∷ blockRow (bytes "<!--\nx") (0 ∷ 3 ∷ []) (foundBlock (found 2 255 4 false 4))
+    ∷ blockRow (bytes "<!--\nx") (0 ∷ 2 ∷ []) (foundBlock (found 2 255 6 false 6))
     -- a tab ends a name
-    ∷ block_row (bytes "<div\tx") (0 ∷ []) (foundBlock (found 6 15 6 false 6))
-    ∷ block_row (bytes "<pre\tx") (0 ∷ []) (foundBlock (found 1 0 6 false 6))
+    ∷ blockRow (bytes "<div\tx") (0 ∷ []) (foundBlock (found 6 15 6 false 6))
+    ∷ blockRow (bytes "<pre\tx") (0 ∷ []) (foundBlock (found 1 0 6 false 6))
     -- kind 6 in a closing tag, and before `/>`
-    ∷ block_row (bytes "</div>x") (0 ∷ []) (foundBlock (found 6 15 7 false 7))
-    ∷ block_row (bytes "<div/>x") (0 ∷ []) (foundBlock (found 6 15 7 false 7))
+    ∷ blockRow (bytes "</div>x") (0 ∷ []) (foundBlock (found 6 15 7 false 7))
+    ∷ blockRow (bytes "<div/>x") (0 ∷ []) (foundBlock (found 6 15 7 false 7))
     -- a line's own flag
     ∷ sameBlock (blockScan crate (bytes "a\n<a>") (2 ∷ 0 ∷ []) 2) (foundBlock (found 7 255 5 false 5))
     ∷ []
@@ -64,32 +64,32 @@ blocks =
 unfoldable pub names : List Bool
 names =
     -- the first and the last but one of the 62, letter case ignored
-    block_row (bytes "<address") (0 ∷ []) (foundBlock (found 6 0 8 false 8))
-    ∷ block_row (bytes "</TRACK/>") (0 ∷ []) (foundBlock (found 6 60 9 false 9))
+    blockRow (bytes "<address") (0 ∷ []) (foundBlock (found 6 0 8 false 8))
+    ∷ blockRow (bytes "</TRACK/>") (0 ∷ []) (foundBlock (found 6 60 9 false 9))
     -- behind the indentation; the list of kind 1 is another
-    ∷ block_row (bytes " <TextArea>") (0 ∷ []) (foundBlock (found 1 3 11 false 11))
+    ∷ blockRow (bytes " <TextArea>") (0 ∷ []) (foundBlock (found 1 3 11 false 11))
     -- a raw name in a closing tag, and before `/>`, is of kind 7
-    ∷ block_row (bytes "</pre>") (0 ∷ []) (foundBlock (found 7 255 6 false 6))
-    ∷ block_row (bytes "<pre/>") (0 ∷ []) (foundBlock (found 7 255 6 false 6))
+    ∷ blockRow (bytes "</pre>") (0 ∷ []) (foundBlock (found 7 255 6 false 6))
+    ∷ blockRow (bytes "<pre/>") (0 ∷ []) (foundBlock (found 7 255 6 false 6))
     ∷ []
 
 -- 02, Ask 2: where the closer stands
 unfoldable pub closers : List Bool
 closers =
     -- it may share bytes with the opening, as 01 lets these close on their own line
-    block_row (bytes "<!-->") (0 ∷ []) (foundBlock (found 2 255 5 true 2))
-    ∷ block_row (bytes "<!--->") (0 ∷ []) (foundBlock (found 2 255 6 true 3))
-    ∷ block_row (bytes "  <?>") (0 ∷ []) (foundBlock (found 3 255 5 true 3))
+    blockRow (bytes "<!-->") (0 ∷ []) (foundBlock (found 2 255 5 true 2))
+    ∷ blockRow (bytes "<!--->") (0 ∷ []) (foundBlock (found 2 255 6 true 3))
+    ∷ blockRow (bytes "  <?>") (0 ∷ []) (foundBlock (found 3 255 5 true 3))
     -- the earliest; its line's own bytes are counted behind the lines before
-    ∷ block_row (bytes "<!A>>") (0 ∷ []) (foundBlock (found 4 255 5 true 3))
-    ∷ block_row (bytes "<!--\r\n\n--->x-->") (0 ∷ 0 ∷ 0 ∷ []) (foundBlock (found 2 255 15 true 8))
+    ∷ blockRow (bytes "<!A>>") (0 ∷ []) (foundBlock (found 4 255 5 true 3))
+    ∷ blockRow (bytes "<!--\r\n\n--->x-->") (0 ∷ 0 ∷ 0 ∷ []) (foundBlock (found 2 255 15 true 8))
     -- a raw end tag's own `<`, whichever raw name it has
-    ∷ block_row (bytes "<script></style></script>") (0 ∷ []) (foundBlock (found 1 1 25 true 8))
+    ∷ blockRow (bytes "<script></style></script>") (0 ∷ []) (foundBlock (found 1 1 25 true 8))
     -- F1: an odd run of `]` is passed over; without F1 its last two bytes close
-    ∷ block_row (bytes "<![CDATA[]]]>]]>") (0 ∷ []) (foundBlock (found 5 255 16 true 13))
+    ∷ blockRow (bytes "<![CDATA[]]]>]]>") (0 ∷ []) (foundBlock (found 5 255 16 true 13))
     ∷ sameBlock (blockScan standard (bytes "<![CDATA[]]]>]]>") (0 ∷ []) 0) (foundBlock (found 5 255 16 true 10))
     -- where a lazy line keeps the closer out, it is the stop
-    ∷ block_row (bytes "<!--\n-->") (0 ∷ 1 ∷ []) (foundBlock (found 2 255 4 false 4))
+    ∷ blockRow (bytes "<!--\n-->") (0 ∷ 1 ∷ []) (foundBlock (found 2 255 4 false 4))
     ∷ []
 
 -- refusals: the first that applies, down the table
@@ -102,7 +102,7 @@ refusals =
     ∷ sameBlock (blockScan crate (bytes "a") (4 ∷ 4 ∷ []) 1) (refusedBlock 2)
     ∷ sameBlock (blockScan crate (bytes "a") (4 ∷ []) 1) (refusedBlock 3)
     ∷ sameBlock (blockScan crate (bytes "a") (3 ∷ []) 1) (refusedBlock 4)
-    ∷ sameBlock (blockScan crate (bytes "a") (3 ∷ []) 0) no_block
+    ∷ sameBlock (blockScan crate (bytes "a") (3 ∷ []) 0) noBlock
     ∷ []
 
 -- withholding: a line behind a block begins a paragraph; 7 comes last; what is written
@@ -163,14 +163,14 @@ unfoldable pub standards : List Bool
 standards =
     -- F1 to F6; a raw name in a closing tag is of kind 7 here too
     standardBlock (bytes "<![CDATA[]]]>") 0 (foundBlock (found 5 255 13 true 10))
-    ∷ standardBlock (bytes "<a 1b>") 0 no_block
-    ∷ standardBlock (bytes "<pre/>") 0 no_block
+    ∷ standardBlock (bytes "<a 1b>") 0 noBlock
+    ∷ standardBlock (bytes "<pre/>") 0 noBlock
     ∷ standardBlock (bytes "</pre>") 0 (foundBlock (found 7 255 6 false 6))
     ∷ standardBlock (bytes "<a b=c/d>") 0 (foundBlock (found 7 255 9 false 9))
-    ∷ standardBlock (bytes "<a b=c=d>") 0 no_block
+    ∷ standardBlock (bytes "<a b=c=d>") 0 noBlock
     ∷ standardBlock (bytes "<a>") 1 (foundBlock (found 7 255 3 false 3))
-    ∷ standardBlock (bytes "<a>") 2 no_block
-    ∷ standardBlock (bytes "<a>") 3 no_block
+    ∷ standardBlock (bytes "<a>") 2 noBlock
+    ∷ standardBlock (bytes "<a>") 3 noBlock
     -- T1
     ∷ standardInline (bytes "<a b=c/d>") 0 (foundInline 9 0)
     -- T2: the carry is neither read nor changed, and refused above 5 all the same

@@ -4,7 +4,7 @@ use Rattle.lexical.specs.Text.{bytes, first}
 use Rattle.lexical.specs.Byte.{isWhitespace}
 use Rattle.lexical.specs.Name.{isDisallowedName}
 use Rattle.rules.specs.Search.{choose, begins}
-use Rattle.rules.specs.Block.{name_of, afterName}
+use Rattle.rules.specs.Block.{nameOf, afterName}
 use Rattle.rules.specs.Refusal.{bulletinRefusal, outputRefusal}
 use Rattle.rules.specs.Withhold.{Which, inline, block, Piece, pieces, holds}
 use Rattle.rules.specs.Output.{Wrote, writing}
@@ -17,7 +17,7 @@ endsTagName s = isWhitespace (first s) || (begins (bytes ">") s || begins (bytes
 
 -- one of the nine names, and what follows it
 abbrev pub disallowedName : List ℕ → Bool
-disallowedName s = isDisallowedName (name_of s) && endsTagName (afterName s)
+disallowedName s = isDisallowedName (nameOf s) && endsTagName (afterName s)
 
 -- `<`, an optional `/`, and such a name; s is the bulletin from an index on, so that what follows may stand beyond the stop of a block
 unfoldable pub isDisallowed : List ℕ → Bool

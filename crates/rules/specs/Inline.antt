@@ -3,15 +3,15 @@ use Rattle.std.specs.Prelude.{ℕ, suc, ◌&&◌, List, [], ◌∷◌, eqb, drop
 use Rattle.lexical.specs.Text.{bytes, first}
 use Rattle.lexical.specs.Byte.{isLetter}
 use Rattle.lexical.specs.Name.{cdataPrefix}
-use Rattle.rules.specs.Search.{choose, begins, Left, left, nothing, or_else, exactly, throughFirst, between}
+use Rattle.rules.specs.Search.{choose, begins, Left, left, nothing, orElse, exactly, throughFirst, between}
 use Rattle.rules.specs.Tag.{inlineTags, openTag, closingTag}
 use Rattle.rules.specs.declared.Rules.{Rules}
 
 -- an HTML comment: `<!-->`, `<!--->`, or `<!--`, a string not including `-->`, and `-->`
 unfoldable pub comment : List ℕ → Left
 comment s =
-    or_else (exactly (bytes "<!-->") s)
-    (λ _. or_else (exactly (bytes "<!--->") s) (λ _. between (bytes "<!--") (bytes "-->") s))
+    orElse (exactly (bytes "<!-->") s)
+    (λ _. orElse (exactly (bytes "<!--->") s) (λ _. between (bytes "<!--") (bytes "-->") s))
 
 -- a processing instruction: `<?`, a string not including `?>`, and `?>`
 unfoldable pub instruction : List ℕ → Left
@@ -25,8 +25,8 @@ declaration s =
 -- an HTML tag that is no CDATA section
 unfoldable pub htmlTag : Rules → List ℕ → Left
 htmlTag ρ s =
-    or_else (openTag (inlineTags ρ) s)
-    (λ _. or_else (closingTag s) (λ _. or_else (comment s) (λ _. or_else (instruction s) (λ _. declaration s))))
+    orElse (openTag (inlineTags ρ) s)
+    (λ _. orElse (closingTag s) (λ _. orElse (comment s) (λ _. orElse (instruction s) (λ _. declaration s))))
 
 -- how much of the CDATA prefix is there: the whole, with what is left behind it, or so many letters
 pub data Prefix : Type 0 where

@@ -32,8 +32,8 @@ flagged flags [] = []
 flagged [] (l ∷ ls) = l ∷ ls
 flagged (f ∷ fs) (l ∷ ls) = line f l.lead l.content ∷ flagged fs ls
 
-unfoldable pub lines_of : List ℕ → List ℕ → List Line
-lines_of flags text = flagged flags (cutLines false [] text)
+unfoldable pub linesOf : List ℕ → List ℕ → List Line
+linesOf flags text = flagged flags (cutLines false [] text)
 
 -- a flag: 1 lazy, 2 interrupt, 3 both, 0 neither
 abbrev pub isLazy : ℕ → Bool

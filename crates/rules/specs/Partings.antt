@@ -4,7 +4,7 @@ use Rattle.lexical.specs.Text.{bytes}
 use Rattle.rules.specs.Reading.{Change, F1, F2, F3, F4, F5, F6, T1, T2, crate, standard}
 use Rattle.rules.specs.Search.{begins, Left, left, nothing}
 use Rattle.rules.specs.Tag.{inlineTags, openTag}
-use Rattle.rules.specs.Scan.{InlineAnswer, foundInline, noInline, refusedInline, inlineScan, BlockAnswer, foundBlock, no_block, refusedBlock, blockScan}
+use Rattle.rules.specs.Scan.{InlineAnswer, foundInline, noInline, refusedInline, inlineScan, BlockAnswer, foundBlock, noBlock, refusedBlock, blockScan}
 use Rattle.rules.specs.Changes.{Spares}
 use Rattle.rules.specs.declared.Rules.{Rules}
 
@@ -52,7 +52,7 @@ inlineListed s a b T2 = begins (bytes "<![") s
 -- the kind that is found, or 0
 abbrev pub foundKind : BlockAnswer → ℕ
 foundKind (foundBlock b) = b.kind
-foundKind no_block = 0
+foundKind noBlock = 0
 foundKind (refusedBlock n) = 0
 
 -- only one finds kind 7, and the other finds none

@@ -50,7 +50,7 @@ pub record InlineSwap (one two : List ℕ) : Type 0 where
   pub private₁ : all isPrivate body₁ ≡ true
   pub private₂ : all isPrivate body₂ ≡ true
   pub one-is : one ≡ before ++ (around form body₁ ++ after)
-  pub two_is : two ≡ before ++ (around form body₂ ++ after)
+  pub two-is : two ≡ before ++ (around form body₂ ++ after)
 
 -- a piece holds the bytes from one index to another
 abbrev pub spans : ℕ → ℕ → Piece → Bool
@@ -70,11 +70,11 @@ pub record LinesSwap (one two : List ℕ) : Type 0 where
   pub lines₁ : List (List ℕ)
   pub lines₂ : List (List ℕ)
   pub after : List ℕ
-  pub same_number : length lines₁ ≡ length lines₂
+  pub same-number : length lines₁ ≡ length lines₂
   pub private₁ : all (all isPrivate) lines₁ ≡ true
   pub private₂ : all (all isPrivate) lines₂ ≡ true
   pub one-is : one ≡ (before ++ (byte "\n" ∷ [])) ++ (linesText lines₁ ++ after)
-  pub two_is : two ≡ (before ++ (byte "\n" ∷ [])) ++ (linesText lines₂ ++ after)
+  pub two-is : two ≡ (before ++ (byte "\n" ∷ [])) ++ (linesText lines₂ ++ after)
 
 -- a block of kinds 1 to 5 with a closing line, its last
 abbrev pub isClosed : Which → Bool
@@ -93,13 +93,13 @@ WithheldLines ρ flags {one} d =
 -- one private piece that run one withholds
 pub data Swap (ρ : Rules) (flags one two : List ℕ) : Type 0 where
   in-line : (d : InlineSwap one two) → WithheldBody ρ flags d → Swap ρ flags one two
-  in_block : (d : LinesSwap one two) → WithheldLines ρ flags d → Swap ρ flags one two
+  in-block : (d : LinesSwap one two) → WithheldLines ρ flags d → Swap ρ flags one two
 
 -- the same bytes, length and count are shown
 pub record SameRuns (ρ : Rules) (flags one two : List ℕ) : Type 0 where
-  pub same_bytes : shown ρ one flags ≡ shown ρ two flags
-  pub same_length : length (shown ρ one flags) ≡ length (shown ρ two flags)
-  pub same_count : count ρ one flags ≡ count ρ two flags
+  pub same-bytes : shown ρ one flags ≡ shown ρ two flags
+  pub same-length : length (shown ρ one flags) ≡ length (shown ρ two flags)
+  pub same-count : count ρ one flags ≡ count ρ two flags
 
 -- neither run is refused
 abbrev pub TwoRuns : Rules → Type 0

@@ -8,11 +8,11 @@ use Rattle.rules.specs.Reading.{crate}
 use Rattle.rules.specs.Search.{somewhere, before, past, throughFirst}
 use Rattle.rules.specs.Tag.{tagEnd, values, attributes, openTag, closingTag}
 use Rattle.rules.specs.Inline.{comment, instruction, declaration, htmlTag, prefix, rawHtml, readInline}
-use Rattle.rules.specs.Lines.{cutLines, flagged, lines_of}
+use Rattle.rules.specs.Lines.{cutLines, flagged, linesOf}
 use Rattle.rules.specs.Block as Block
-use Rattle.rules.specs.Block.{startsRaw, startsBasic, startsComplete, kind_at, kind_of, place_of, beforeEven, beforeCloser, closes, extentOf, inLast}
+use Rattle.rules.specs.Block.{startsRaw, startsBasic, startsComplete, kindAt, kindOf, placeOf, beforeEven, beforeCloser, closes, extentOf, inLast}
 use Rattle.rules.specs.Refusal.{refusal, blankFollows, inlineRefusal, blockRefusal, bulletinRefusal}
-use Rattle.rules.specs.Scan.{InlineAnswer, foundInline, noInline, refusedInline, inlineAt, inlineScan, found, BlockAnswer, foundBlock, no_block, refusedBlock, block_of, linesAt, blockAt, blockScan}
+use Rattle.rules.specs.Scan.{InlineAnswer, foundInline, noInline, refusedInline, inlineAt, inlineScan, found, BlockAnswer, foundBlock, noBlock, refusedBlock, blockOf, linesAt, blockAt, blockScan}
 use Rattle.rules.specs.Trace.{field, pointBytes, eventBytes, lastBytes, textLines, textEvents, inlineTrace}
 use Rattle.rules.specs.Withhold.{marks, goesOn, inlinePieces, linePieces, pieces, isWithheld, outside, shown, count}
 
@@ -34,21 +34,21 @@ sameBit false b = not b
 
 abbrev pub sameBlock : BlockAnswer → BlockAnswer → Bool
 sameBlock (foundBlock a) (foundBlock b) = eqb a.kind b.kind && (eqb a.name b.name && (eqb a.stop b.stop && (sameBit a.closed b.closed && eqb a.closer b.closer)))
-sameBlock (foundBlock a) no_block = false
+sameBlock (foundBlock a) noBlock = false
 sameBlock (foundBlock a) (refusedBlock n) = false
-sameBlock no_block (foundBlock b) = false
-sameBlock no_block no_block = true
-sameBlock no_block (refusedBlock n) = false
+sameBlock noBlock (foundBlock b) = false
+sameBlock noBlock noBlock = true
+sameBlock noBlock (refusedBlock n) = false
 sameBlock (refusedBlock m) (foundBlock b) = false
-sameBlock (refusedBlock m) no_block = false
+sameBlock (refusedBlock m) noBlock = false
 sameBlock (refusedBlock m) (refusedBlock n) = eqb m n
 
 -- a text at index 0
 abbrev pub inlineRow : List ℕ → ℕ → InlineAnswer → Bool
 inlineRow text k a = sameInline (inlineScan crate text 0 k) a
 
-abbrev pub block_row : List ℕ → List ℕ → BlockAnswer → Bool
-block_row text flags a = sameBlock (blockScan crate text flags 0) a
+abbrev pub blockRow : List ℕ → List ℕ → BlockAnswer → Bool
+blockRow text flags a = sameBlock (blockScan crate text flags 0) a
 
 -- 01, The added screen
 abbrev pub bulletin : List ℕ
@@ -73,8 +73,8 @@ rows =
     inlineRow (bytes "<![CDx") 0 (noInline 2) ∷
     inlineRow (bytes "<![ATA[q]]>") 2 (foundInline 11 0) ∷
     -- html_flow.rs
-    block_row (bytes "<![CDATA[]]]>") (0 ∷ []) (foundBlock (found 5 255 13 false 13)) ∷
-    block_row (bytes "<![CDATA[]]]]>") (0 ∷ []) (foundBlock (found 5 255 14 true 11)) ∷
+    blockRow (bytes "<![CDATA[]]]>") (0 ∷ []) (foundBlock (found 5 255 13 false 13)) ∷
+    blockRow (bytes "<![CDATA[]]]]>") (0 ∷ []) (foundBlock (found 5 255 14 true 11)) ∷
     -- the added screen: two pieces, and what is shown
     sameBytes (shown crate bulletin noFlags) (bytes "door 9\n\n\nok") ∷
     eqb (count crate bulletin noFlags) 2 ∷
@@ -93,18 +93,18 @@ slips =
     -- clearing the carry: `<![CDATA[q]]>` is not found with carry 2
     inlineRow (bytes "<![CDATA[q]]>") 2 (noInline 2) ∷
     -- counting CR in a name: `<div` before CR LF is kind 6
-    block_row (bytes "<div\r\nx") (0 ∷ 0 ∷ []) (foundBlock (found 6 15 7 false 7)) ∷
+    blockRow (bytes "<div\r\nx") (0 ∷ 0 ∷ []) (foundBlock (found 6 15 7 false 7)) ∷
     -- giving a final LF to kind 6
-    block_row (bytes "<div>\n") (0 ∷ 0 ∷ []) (foundBlock (found 6 15 5 false 5)) ∷
+    blockRow (bytes "<div>\n") (0 ∷ 0 ∷ []) (foundBlock (found 6 15 5 false 5)) ∷
     -- letting `</script` match a longer name
-    block_row (bytes "<pre>\n</scripts>") (0 ∷ 0 ∷ []) (foundBlock (found 1 0 16 false 16)) ∷
-    block_row (bytes "<pre>\n</script>") (0 ∷ 0 ∷ []) (foundBlock (found 1 0 15 true 6)) ∷
+    blockRow (bytes "<pre>\n</scripts>") (0 ∷ 0 ∷ []) (foundBlock (found 1 0 16 false 16)) ∷
+    blockRow (bytes "<pre>\n</script>") (0 ∷ 0 ∷ []) (foundBlock (found 1 0 15 true 6)) ∷
     -- three leading spaces may open; four, or a tab, may not
-    block_row (bytes "   <a>") (0 ∷ []) (foundBlock (found 7 255 6 false 6)) ∷
-    block_row (bytes "    <a>") (0 ∷ []) no_block ∷
-    block_row (bytes "\t<a>") (0 ∷ []) no_block ∷
+    blockRow (bytes "   <a>") (0 ∷ []) (foundBlock (found 7 255 6 false 6)) ∷
+    blockRow (bytes "    <a>") (0 ∷ []) noBlock ∷
+    blockRow (bytes "\t<a>") (0 ∷ []) noBlock ∷
     []
 
 pub rows-hold : all (λ b. b) (rows ++ slips) ≡ true
-unfolding rows slips run limit lineEnding endsLine lineEndings lines isBlank isLineStart all sameBytes isMember blockNames rawNames isBlockName isRawName placeFrom blockPlace rawPlace cdataPrefix tabReadings passed movedBy pointAt somewhere before past throughFirst tagEnd values attributes openTag closingTag comment instruction declaration htmlTag prefix rawHtml readInline cutLines flagged lines_of startsRaw startsBasic startsComplete kind_at kind_of place_of beforeEven beforeCloser closes Block.goesOn extentOf inLast refusal blankFollows inlineRefusal blockRefusal bulletinRefusal inlineAt inlineScan block_of linesAt blockAt blockScan field pointBytes eventBytes lastBytes textLines textEvents inlineTrace marks goesOn inlinePieces linePieces pieces isWithheld outside shown count
+unfolding rows slips run limit lineEnding endsLine lineEndings lines isBlank isLineStart all sameBytes isMember blockNames rawNames isBlockName isRawName placeFrom blockPlace rawPlace cdataPrefix tabReadings passed movedBy pointAt somewhere before past throughFirst tagEnd values attributes openTag closingTag comment instruction declaration htmlTag prefix rawHtml readInline cutLines flagged linesOf startsRaw startsBasic startsComplete kindAt kindOf placeOf beforeEven beforeCloser closes Block.goesOn extentOf inLast refusal blankFollows inlineRefusal blockRefusal bulletinRefusal inlineAt inlineScan blockOf linesAt blockAt blockScan field pointBytes eventBytes lastBytes textLines textEvents inlineTrace marks goesOn inlinePieces linePieces pieces isWithheld outside shown count
 rows-hold = refl

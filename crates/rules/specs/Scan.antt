@@ -3,8 +3,8 @@ use Rattle.std.specs.Prelude.{ℕ, ◌-◌, Bool, List, [], ◌∷◌, eqb, leng
 use Rattle.lexical.specs.Line.{lineEndings}
 use Rattle.rules.specs.Search.{choose}
 use Rattle.rules.specs.Inline.{Read, takes, lacks, readInline}
-use Rattle.rules.specs.Lines.{Line, lines_of}
-use Rattle.rules.specs.Block.{Extent, kind_of, place_of, extentOf, stopAfter, closerAfter}
+use Rattle.rules.specs.Lines.{Line, linesOf}
+use Rattle.rules.specs.Block.{Extent, kindOf, placeOf, extentOf, stopAfter, closerAfter}
 use Rattle.rules.specs.Refusal.{inlineRefusal, blockRefusal}
 use Rattle.rules.specs.declared.Rules.{Rules}
 
@@ -43,25 +43,25 @@ found k n s c at = record { kind = k; name = n; stop = s; closed = c; closer = a
 -- found, or none
 pub data BlockAnswer : Type 0 where
   foundBlock : Found → BlockAnswer
-  no_block : BlockAnswer
+  noBlock : BlockAnswer
   refusedBlock : ℕ → BlockAnswer
 
 -- the block of kind k and extent e whose first line begins at i
 abbrev pub blockFound : Rules → ℕ → ℕ → Line → List Line → Extent → Found
-blockFound ρ k i l ls e = found k (place_of k l) (stopAfter i e.lines (l ∷ ls)) e.closed (closerAfter ρ k i e.lines (l ∷ ls))
+blockFound ρ k i l ls e = found k (placeOf k l) (stopAfter i e.lines (l ∷ ls)) e.closed (closerAfter ρ k i e.lines (l ∷ ls))
 
 -- the block that the first line opens, which begins at i
-unfoldable pub block_of : Rules → ℕ → List Line → BlockAnswer
-block_of ρ i [] = no_block
-block_of ρ i (l ∷ ls) =
-    choose (eqb (kind_of ρ l) 0) (λ _. no_block) (λ _. foundBlock (blockFound ρ (kind_of ρ l) i l ls (extentOf ρ (kind_of ρ l) l ls)))
+unfoldable pub blockOf : Rules → ℕ → List Line → BlockAnswer
+blockOf ρ i [] = noBlock
+blockOf ρ i (l ∷ ls) =
+    choose (eqb (kindOf ρ l) 0) (λ _. noBlock) (λ _. foundBlock (blockFound ρ (kindOf ρ l) i l ls (extentOf ρ (kindOf ρ l) l ls)))
 
 -- the lines from an index on, with their flags
 unfoldable pub linesAt : List ℕ → List ℕ → ℕ → List Line
-linesAt text flags i = lines_of (drop (lineEndings (take i text)) flags) (drop i text)
+linesAt text flags i = linesOf (drop (lineEndings (take i text)) flags) (drop i text)
 
 unfoldable pub blockAt : Rules → List ℕ → List ℕ → ℕ → BlockAnswer
-blockAt ρ text flags i = block_of ρ i (linesAt text flags i)
+blockAt ρ text flags i = blockOf ρ i (linesAt text flags i)
 
 abbrev pub refuseBlock : ℕ → BlockAnswer → BlockAnswer
 refuseBlock n a = choose (eqb n 0) (λ _. a) (λ _. refusedBlock n)

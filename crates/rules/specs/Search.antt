@@ -33,9 +33,9 @@ pub data Left : Type 0 where
   nothing : Left
 
 -- behind one, or where that is not there behind the other
-abbrev pub or_else : Left → (Unit {0} → Left) → Left
-or_else (left s) other = left s
-or_else nothing other = other tt
+abbrev pub orElse : Left → (Unit {0} → Left) → Left
+orElse (left s) other = left s
+orElse nothing other = other tt
 
 -- behind p in front of s
 abbrev pub exactly : List ℕ → List ℕ → Left

@@ -5,7 +5,7 @@
 use Rattle.std.specs.Prelude.{ℕ, zero, suc, Bool, true, false, ◌&&◌, not, List, [], ◌∷◌, eqb, length, drop}
 use Rattle.lexical.specs.Text.{bytes, first}
 use Rattle.lexical.specs.Byte.{isLetter, isTagNameByte, isAttributeNameByte, isWhitespace, isQuote, isValueExcluded, isNameStart, isValueEnd}
-use Rattle.rules.specs.Search.{choose, begins, past, Left, nothing, or_else, exactly}
+use Rattle.rules.specs.Search.{choose, begins, past, Left, nothing, orElse, exactly}
 use Rattle.rules.specs.declared.Rules.{Rules}
 
 pub record Grammar : Type 0 where
@@ -26,7 +26,7 @@ blockTags ρ = record { digits = ρ.f2; slashless = ρ.f4; slashFirst = false; f
 
 -- an optional `/`, and `>`
 unfoldable pub tagEnd : List ℕ → Left
-tagEnd s = or_else (exactly (bytes ">") s) (λ _. exactly (bytes "/>") s)
+tagEnd s = orElse (exactly (bytes ">") s) (λ _. exactly (bytes "/>") s)
 
 -- a quoted value's closing mark, and what follows the value
 abbrev pub pastQuote : (List ℕ → Left) → List ℕ → Left

@@ -9,7 +9,7 @@ use Rattle.lexical.specs.declared.event.Point.{Point}
 use Rattle.rules.specs.Search.{choose}
 use Rattle.rules.specs.Lines.{Line, cutLines}
 use Rattle.rules.specs.Block.{indentation}
-use Rattle.rules.specs.Scan.{InlineAnswer, foundInline, noInline, refusedInline, Found, BlockAnswer, foundBlock, no_block, refusedBlock}
+use Rattle.rules.specs.Scan.{InlineAnswer, foundInline, noInline, refusedInline, Found, BlockAnswer, foundBlock, noBlock, refusedBlock}
 
 -- ---- bytes
 -- line, column, index and stop have two bytes each, low first
@@ -65,8 +65,8 @@ abbrev pub pair : ℕ → ℕ → ℕ → List Event
 pair k i j = event k i ∷ event (suc k) j ∷ []
 
 -- the same, where there is a byte between
-abbrev pub pair_of : ℕ → ℕ → ℕ → List Event
-pair_of k i j = choose (ltb i j) (λ _. pair k i j) (λ _. [])
+abbrev pub pairOf : ℕ → ℕ → ℕ → List Event
+pairOf k i j = choose (ltb i j) (λ _. pair k i j) (λ _. [])
 
 -- the lines of the bytes from start to stop
 abbrev pub taken : List ℕ → ℕ → ℕ → List Line
@@ -77,7 +77,7 @@ unfoldable pub textLines : ℕ → List Line → List Event
 textLines i [] = []
 textLines i (l ∷ ls) =
     pair lineEndingKind i (i + length l.lead)
-    ++ (pair_of spaceOrTab (i + length l.lead) (i + length l.lead + run isSpaceOrTab l.content)
+    ++ (pairOf spaceOrTab (i + length l.lead) (i + length l.lead + run isSpaceOrTab l.content)
     ++ (pair htmlTextData (i + length l.lead + run isSpaceOrTab l.content) (i + length l.lead + length l.content)
     ++ textLines (i + length l.lead + length l.content) ls))
 
@@ -93,7 +93,7 @@ unfoldable pub flowLines : ℕ → List Line → List Event
 flowLines i [] = []
 flowLines i (l ∷ ls) =
     pair lineEndingKind i (i + length l.lead)
-    ++ (pair_of htmlFlowData (i + length l.lead) (i + length l.lead + length l.content)
+    ++ (pairOf htmlFlowData (i + length l.lead) (i + length l.lead + length l.content)
     ++ flowLines (i + length l.lead + length l.content) ls)
 
 -- the indentation has a pair of its own; the whole is left at exit
@@ -101,7 +101,7 @@ unfoldable pub flowEvents : ℕ → ℕ → List Line → List Event
 flowEvents start exit [] = []
 flowEvents start exit (l ∷ ls) =
     event htmlFlow start
-    ∷ (pair_of htmlFlowData start (start + indentation l.content)
+    ∷ (pairOf htmlFlowData start (start + indentation l.content)
     ++ (pair htmlFlowData (start + indentation l.content) (start + length l.content)
     ++ (flowLines (start + length l.content) ls ++ (event (suc htmlFlow) exit ∷ []))))
 
@@ -131,7 +131,7 @@ flowTrace text start kind stop closed =
 
 unfoldable pub blockTrace : List ℕ → ℕ → BlockAnswer → List ℕ
 blockTrace text start (foundBlock b) = flowTrace text start b.kind b.stop b.closed
-blockTrace text start no_block = lastBytes width 14 start 0
+blockTrace text start noBlock = lastBytes width 14 start 0
 blockTrace text start (refusedBlock n) = []
 
 -- ---- reading

@@ -3,8 +3,8 @@ use Rattle.std.specs.Prelude.{ℕ, zero, suc, ◌+◌, ◌-◌, Bool, true, fals
 use Rattle.lexical.specs.Line.{isBlank}
 use Rattle.rules.specs.Search.{choose}
 use Rattle.rules.specs.Inline.{Read, takes, lacks, readInline}
-use Rattle.rules.specs.Lines.{Line, lines_of}
-use Rattle.rules.specs.Block.{Extent, kind_of, extentOf, stopAfter}
+use Rattle.rules.specs.Lines.{Line, linesOf}
+use Rattle.rules.specs.Block.{Extent, kindOf, extentOf, stopAfter}
 use Rattle.rules.specs.Refusal.{bulletinRefusal, outputRefusal}
 use Rattle.rules.specs.declared.Rules.{Rules}
 
@@ -25,10 +25,10 @@ unfoldable pub marks : Rules → ℕ → Bool → List Line → List Mark
 marks ρ n paragraph [] = []
 marks ρ (suc n) paragraph (l ∷ ls) = blockMore ∷ marks ρ n false ls
 marks ρ zero paragraph (l ∷ ls) =
-    choose (eqb (kind_of ρ l) 0)
+    choose (eqb (kindOf ρ l) 0)
     (λ _. choose (isBlank l.content) (λ _. blank ∷ marks ρ zero false ls)
     (λ _. choose paragraph (λ _. paragraphMore ∷ marks ρ zero true ls) (λ _. paragraphFirst ∷ marks ρ zero true ls)))
-    (λ _. blockFirst (kind_of ρ l) (extentOf ρ (kind_of ρ l) l ls) ∷ marks ρ ((extentOf ρ (kind_of ρ l) l ls).lines - 1) false ls)
+    (λ _. blockFirst (kindOf ρ l) (extentOf ρ (kindOf ρ l) l ls) ∷ marks ρ ((extentOf ρ (kindOf ρ l) l ls).lines - 1) false ls)
 
 -- what a paragraph has behind its first line, without its last line ending
 unfoldable pub goesOn : List Mark → List Line → List ℕ
@@ -81,12 +81,12 @@ linePieces ρ i (paragraphFirst ∷ ms) (l ∷ ls) =
     ++ linePieces ρ (i + length l.lead + length l.content) ms ls
 linePieces ρ i (paragraphMore ∷ ms) (l ∷ ls) = linePieces ρ (i + length l.lead + length l.content) ms ls
 
-abbrev pub pieces_of : Rules → List Line → List Piece
-pieces_of ρ ls = linePieces ρ 0 (marks ρ 0 false ls) ls
+abbrev pub piecesOf : Rules → List Line → List Piece
+piecesOf ρ ls = linePieces ρ 0 (marks ρ 0 false ls) ls
 
 -- the pieces of a bulletin, in text order
 unfoldable pub pieces : Rules → List ℕ → List ℕ → List Piece
-pieces ρ text flags = pieces_of ρ (lines_of flags text)
+pieces ρ text flags = piecesOf ρ (linesOf flags text)
 
 -- ---- what is shown
 -- a piece holds the byte at i

@@ -11,7 +11,7 @@ use Rattle.rules.specs.Scan.{inlineScan, blockScan}
 use Rattle.rules.specs.Changes.{Spares, Unchanged}
 use Rattle.rules.specs.Partings.{isFoundInline, inlineListed, foundKind, blockListed}
 use Rattle.rules.specs.Withhold.{Which, inline, block, Piece, pieces, shown}
-use Rattle.rules.specs.Private.{isPrivate, any, Form, comment, instruction, declaration, cdata, around, spans, linesText, encloses, Swap, in-line, in_block, TwoRuns}
+use Rattle.rules.specs.Private.{isPrivate, any, Form, comment, instruction, declaration, cdata, around, spans, linesText, encloses, Swap, in-line, in-block, TwoRuns}
 use Rattle.rules.specs.Rows.{sameBit, sameInline, sameBlock}
 use Rattle.rules.specs.Computing.{computing}
 use Rattle.rules.specs.declared.Rules.{Rules}
@@ -193,14 +193,14 @@ pub comment-swap : Swap crate (0 ∷ []) (bytes "a <!--x y--> b") (bytes "a <!--
 unfolding computing
 comment-swap =
     in-line
-    (record { before = bytes "a "; form = comment; body₁ = bytes "x y"; body₂ = bytes "xyz=/"; after = bytes " b"; private₁ = refl; private₂ = refl; one-is = refl; two_is = refl })
+    (record { before = bytes "a "; form = comment; body₁ = bytes "x y"; body₂ = bytes "xyz=/"; after = bytes " b"; private₁ = refl; private₂ = refl; one-is = refl; two-is = refl })
     refl
 
 pub lines-swap : Swap crate (0 ∷ 0 ∷ 0 ∷ 0 ∷ []) (bytes "<!--\na\n\n-->") (bytes "<!--\nbc d\ne\n-->")
 unfolding computing
 lines-swap =
-    in_block
-    (record { before = bytes "<!--"; lines₁ = bytes "a" ∷ [] ∷ []; lines₂ = bytes "bc d" ∷ bytes "e" ∷ []; after = bytes "-->"; same_number = refl; private₁ = refl; private₂ = refl; one-is = refl; two_is = refl })
+    in-block
+    (record { before = bytes "<!--"; lines₁ = bytes "a" ∷ [] ∷ []; lines₂ = bytes "bc d" ∷ bytes "e" ∷ []; after = bytes "-->"; same-number = refl; private₁ = refl; private₂ = refl; one-is = refl; two-is = refl })
     refl
 
 -- what demand 3 then gives: whatever private bytes a remark has, the same is shown
@@ -211,8 +211,8 @@ pub any-remark : TwoRuns crate → (s : List ℕ) → all isPrivate s ≡ true �
     → shown crate (remark s) (0 ∷ []) ≡ bytes "a  b"
 unfolding computing
 any-remark runs s private accepts =
-    let swap : Swap crate (0 ∷ []) (remark []) (remark s) = in-line (record { before = bytes "a "; form = comment; body₁ = []; body₂ = s; after = bytes " b"; private₁ = refl; private₂ = private; one-is = refl; two_is = refl }) refl in
-    sym (runs (0 ∷ []) (remark []) (remark s) refl accepts swap).same_bytes
+    let swap : Swap crate (0 ∷ []) (remark []) (remark s) = in-line (record { before = bytes "a "; form = comment; body₁ = []; body₂ = s; after = bytes " b"; private₁ = refl; private₂ = private; one-is = refl; two-is = refl }) refl in
+    sym (runs (0 ∷ []) (remark []) (remark s) refl accepts swap).same-bytes
 
 -- a swap by its parts, with what holds the private piece: 0 for an inline piece, or the kind of the block
 pub data Row : Type 0 where

@@ -13,7 +13,7 @@ use Rattle.lexical.specs.Text.{byte, first, run}
 use Rattle.lexical.specs.Byte.{isQuote, isSpaceOrTab}
 use Rattle.lexical.specs.Line.{isBlank, atLineEnd}
 use Rattle.lexical.specs.Name.{all}
-use Rattle.lexical.proofs.Cases.{split, clash, and_left, and_right}
+use Rattle.lexical.proofs.Cases.{split, clash, and-left, and-right}
 use Rattle.rules.specs.Search.{begins, past, Left, left, nothing, throughFirst}
 use Rattle.rules.specs.Private.{Form, closer}
 use Rattle.rules.proofs.Past.{past-run, past-length}
@@ -43,7 +43,7 @@ pub data Lefts (w₁ w₂ q : List ℕ) : Left → Left → Type 0 where
 pub data View (w₁ w₂ q : List ℕ) : List ℕ → List ℕ → Type 0 where
   at-end : View w₁ w₂ q [] []
   at-opening : View w₁ w₂ q (byte "<" ∷ w₁) (byte "<" ∷ w₂)
-  at_byte : (x : ℕ) {s t : List ℕ} → Pair w₁ w₂ q s t → View w₁ w₂ q (x ∷ s) (x ∷ t)
+  at-byte : (x : ℕ) {s t : List ℕ} → Pair w₁ w₂ q s t → View w₁ w₂ q (x ∷ s) (x ∷ t)
 
 -- no `<` among these bytes
 abbrev pub angleless : List ℕ → Bool
@@ -52,9 +52,9 @@ angleless p = all (λ b. not (eqb (byte "<") b)) p
 module _ {w₁ w₂ q : List ℕ} where
   pub view : {s t : List ℕ} → Pair w₁ w₂ q s t → View w₁ w₂ q s t
   view (ahead []) = at-opening
-  view (ahead (x ∷ u)) = at_byte x (ahead u)
+  view (ahead (x ∷ u)) = at-byte x (ahead u)
   view (behind [] l) = at-end
-  view (behind (x ∷ s) l) = at_byte x (behind s (omega arith))
+  view (behind (x ∷ s) l) = at-byte x (behind s (omega arith))
 
   pub same-lefts : (a : Left) → AtMost q a → Lefts w₁ w₂ q a a
   same-lefts (left s) h = lefts (behind s h)
@@ -89,25 +89,25 @@ module _ {w₁ w₂ q : List ℕ} where
   pub begins-same : (p : List ℕ) → angleless p ≡ true → {s t : List ℕ} → Pair w₁ w₂ q s t → begins p s ≡ begins p t
   unfolding all
   begins-same [] e r = refl
-  begins-same (c ∷ p) e (ahead []) = rw (not-true (eqb (byte "<") c) (and_left (not (eqb (byte "<") c)) (angleless p) e))
-  begins-same (c ∷ p) e (ahead (x ∷ u)) = rw (begins-same p (and_right (not (eqb (byte "<") c)) (angleless p) e) (ahead u))
+  begins-same (c ∷ p) e (ahead []) = rw (not-true (eqb (byte "<") c) (and-left (not (eqb (byte "<") c)) (angleless p) e))
+  begins-same (c ∷ p) e (ahead (x ∷ u)) = rw (begins-same p (and-right (not (eqb (byte "<") c)) (angleless p) e) (ahead u))
   begins-same (c ∷ p) e (behind s l) = refl
 
   pub drop-pair : (p : List ℕ) → angleless p ≡ true → {s t : List ℕ} → begins p s ≡ true → Pair w₁ w₂ q s t → Pair w₁ w₂ q (drop (length p) s) (drop (length p) t)
   unfolding all
   drop-pair [] e h r = r
   drop-pair (c ∷ p) e h (ahead []) =
-      clash (eqb (byte "<") c && begins p w₁) h (rw (not-true (eqb (byte "<") c) (and_left (not (eqb (byte "<") c)) (angleless p) e)))
+      clash (eqb (byte "<") c && begins p w₁) h (rw (not-true (eqb (byte "<") c) (and-left (not (eqb (byte "<") c)) (angleless p) e)))
   drop-pair (c ∷ p) e h (ahead (x ∷ u)) =
-      drop-pair p (and_right (not (eqb (byte "<") c)) (angleless p) e) (and_right (eqb x c) (begins p (u ++ (byte "<" ∷ w₁))) h) (ahead u)
+      drop-pair p (and-right (not (eqb (byte "<") c)) (angleless p) e) (and-right (eqb x c) (begins p (u ++ (byte "<" ∷ w₁))) h) (ahead u)
   drop-pair (c ∷ p) e h (behind s l) = behind (drop (length (c ∷ p)) s) (omega (arith, length-drop (length (c ∷ p)) s))
 
   -- a line's end, and one behind blanks
-  pub end_same : {s t : List ℕ} → Pair w₁ w₂ q s t → atLineEnd s ≡ atLineEnd t
-  end_same (ahead []) = refl
-  end_same (ahead (x ∷ u)) = refl
-  end_same (behind s l) = refl
+  pub end-same : {s t : List ℕ} → Pair w₁ w₂ q s t → atLineEnd s ≡ atLineEnd t
+  end-same (ahead []) = refl
+  end-same (ahead (x ∷ u)) = refl
+  end-same (behind s l) = refl
 
   pub blank-same : {s t : List ℕ} → Pair w₁ w₂ q s t → isBlank s ≡ isBlank t
   unfolding isBlank
-  blank-same {s} {t} r = rw (← past-run isSpaceOrTab s, ← past-run isSpaceOrTab t) (end_same (past-pair isSpaceOrTab refl r))
+  blank-same {s} {t} r = rw (← past-run isSpaceOrTab s, ← past-run isSpaceOrTab t) (end-same (past-pair isSpaceOrTab refl r))

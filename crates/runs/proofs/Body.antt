@@ -10,7 +10,7 @@ use borrow.Author.Tests.{eqb-true, not-true}
 use Rattle.lexical.specs.Text.{byte, bytes}
 use Rattle.lexical.specs.Byte.{isLetter, isQuote}
 use Rattle.lexical.specs.Name.{all}
-use Rattle.lexical.proofs.Cases.{split, clash, excluded, and_left, and_right}
+use Rattle.lexical.proofs.Cases.{split, clash, excluded, and-left, and-right}
 use Rattle.rules.specs.Search.{past, somewhere, Left, left, throughFirst}
 use Rattle.rules.specs.Block.{isRawEnd}
 use Rattle.rules.specs.Private.{isPrivate, Form, closer, around, comment as Comment, instruction as Instruction, declaration as Declaration, cdata as Cdata}
@@ -22,29 +22,29 @@ use Rattle.runs.proofs.InlineReads.{through-most}
 abbrev pub other : ℕ → ℕ → Bool
 other c b = not (eqb b c)
 
-pub all_more : (f g : ℕ → Bool) → ((x : ℕ) → f x ≡ true → g x ≡ true) → (l : List ℕ) → all f l ≡ true → all g l ≡ true
+pub all-more : (f g : ℕ → Bool) → ((x : ℕ) → f x ≡ true → g x ≡ true) → (l : List ℕ) → all f l ≡ true → all g l ≡ true
 unfolding all
-all_more f g on [] h = refl
-all_more f g on (x ∷ l) h = rw (on x (and_left (f x) (all f l) h)) (all_more f g on l (and_right (f x) (all f l) h))
+all-more f g on [] h = refl
+all-more f g on (x ∷ l) h = rw (on x (and-left (f x) (all f l) h)) (all-more f g on l (and-right (f x) (all f l) h))
 
 pub private-other : (c : ℕ) → isPrivate c ≡ false → (l : List ℕ) → all isPrivate l ≡ true → all (other c) l ≡ true
-private-other c e l h = all_more isPrivate (other c) (λ x p. rw (excluded isPrivate c x e p)) l h
+private-other c e l h = all-more isPrivate (other c) (λ x p. rw (excluded isPrivate c x e p)) l h
 
 past-over : (f : ℕ → Bool) (l s : List ℕ) → all f l ≡ true → past f (l ++ s) ≡ past f s
 unfolding past all
 past-over f [] s h = refl
-past-over f (x ∷ l) s h = rw (and_left (f x) (all f l) h) (past-over f l s (and_right (f x) (all f l) h))
+past-over f (x ∷ l) s h = rw (and-left (f x) (all f l) h) (past-over f l s (and-right (f x) (all f l) h))
 
 pub through-over : (c : ℕ) (p l s : List ℕ) → all (other c) l ≡ true → throughFirst (c ∷ p) (l ++ s) ≡ throughFirst (c ∷ p) s
 unfolding throughFirst all
 through-over c p [] s h = refl
-through-over c p (x ∷ l) s h = rw (not-true (eqb x c) (and_left (other c x) (all (other c) l) h)) (through-over c p l s (and_right (other c x) (all (other c) l) h))
+through-over c p (x ∷ l) s h = rw (not-true (eqb x c) (and-left (other c x) (all (other c) l) h)) (through-over c p l s (and-right (other c x) (all (other c) l) h))
 
 pub raw-over : (l s : List ℕ) → all (other (byte "<")) l ≡ true → somewhere isRawEnd (l ++ s) ≡ somewhere isRawEnd s
 unfolding somewhere all
 raw-over [] s h = refl
 raw-over (x ∷ l) s h =
-    rw (not-true (eqb x (byte "<")) (and_left (other (byte "<") x) (all (other (byte "<")) l) h)) (raw-over l s (and_right (other (byte "<") x) (all (other (byte "<")) l) h))
+    rw (not-true (eqb x (byte "<")) (and-left (other (byte "<") x) (all (other (byte "<")) l) h)) (raw-over l s (and-right (other (byte "<") x) (all (other (byte "<")) l) h))
 
 -- neither `]` nor `>`
 abbrev pub calm : ℕ → Bool
@@ -54,12 +54,12 @@ pub even-over : (l s : List ℕ) → all calm l ≡ true → closesEven 0 (l ++ 
 unfolding closesEven all
 even-over [] s h = refl
 even-over (x ∷ l) s h =
-    let k = and_left (calm x) (all calm l) h in
-    rw (not-true (eqb x (byte "]")) (and_left (other (byte "]") x) (other (byte ">") x) k), not-true (eqb x (byte ">")) (and_right (other (byte "]") x) (other (byte ">") x) k))
-    (even-over l s (and_right (calm x) (all calm l) h))
+    let k = and-left (calm x) (all calm l) h in
+    rw (not-true (eqb x (byte "]")) (and-left (other (byte "]") x) (other (byte ">") x) k), not-true (eqb x (byte ">")) (and-right (other (byte "]") x) (other (byte ">") x) k))
+    (even-over l s (and-right (calm x) (all calm l) h))
 
 pub private-calm : (l : List ℕ) → all isPrivate l ≡ true → all calm l ≡ true
-private-calm l h = all_more isPrivate calm (λ x p. rw (excluded isPrivate (byte "]") x refl p, excluded isPrivate (byte ">") x refl p)) l h
+private-calm l h = all-more isPrivate calm (λ x p. rw (excluded isPrivate (byte "]") x refl p, excluded isPrivate (byte ">") x refl p)) l h
 
 -- ---- behind the `<` of an opening
 abbrev pub rest : Form → List ℕ
@@ -139,9 +139,9 @@ pub comment-ends : (b q : List ℕ) → all isPrivate b ≡ true → throughFirs
 unfolding throughFirst all
 comment-ends [] q h = refl
 comment-ends (x ∷ b) q h =
-    let p = and_left (isPrivate x) (all isPrivate b) h in
+    let p = and-left (isPrivate x) (all isPrivate b) h in
     rw (excluded isPrivate (byte ">") x refl p, excluded isPrivate (byte "-") x refl p)
-    (through-over (byte "-") (bytes "->") b (bytes "-->" ++ q) (private-other (byte "-") refl b (and_right (isPrivate x) (all isPrivate b) h)))
+    (through-over (byte "-") (bytes "->") b (bytes "-->" ++ q) (private-other (byte "-") refl b (and-right (isPrivate x) (all isPrivate b) h)))
 
 pub instruction-ends : (b q : List ℕ) → all isPrivate b ≡ true → throughFirst (bytes "?>") (b ++ (bytes "?>" ++ q)) ≡ left q
 unfolding throughFirst
@@ -151,7 +151,7 @@ question-ends : (b q : List ℕ) → all isPrivate b ≡ true → throughFirst (
 unfolding throughFirst all
 question-ends [] q h = refl
 question-ends (x ∷ b) q h =
-    rw (excluded isPrivate (byte ">") x refl (and_left (isPrivate x) (all isPrivate b) h)) (instruction-ends (x ∷ b) q h)
+    rw (excluded isPrivate (byte ">") x refl (and-left (isPrivate x) (all isPrivate b) h)) (instruction-ends (x ∷ b) q h)
 
 pub cdata-ends : (b q : List ℕ) → all isPrivate b ≡ true → throughFirst (bytes "]]>") (b ++ (bytes "]]>" ++ q)) ≡ left q
 unfolding throughFirst

@@ -11,12 +11,12 @@ use borrow.Author.Tests.{not-true}
 use Rattle.lexical.specs.Text.{byte, bytes}
 use Rattle.lexical.specs.Byte.{isLetter, isLineEndingByte}
 use Rattle.lexical.specs.Name.{all}
-use Rattle.lexical.proofs.Cases.{clash, excluded, or_left, or_right, and_left, and_right}
+use Rattle.lexical.proofs.Cases.{clash, excluded, or-left, or-right, and-left, and-right}
 use Rattle.rules.specs.Search.{choose}
-use Rattle.rules.specs.Lines.{Line, line, push, cutLines, flagged, lines_of}
+use Rattle.rules.specs.Lines.{Line, line, push, cutLines, flagged, linesOf}
 use Rattle.rules.specs.Private.{isPrivate, Form, around, closer, InlineSwap, comment as Comment, instruction as Instruction, declaration as Declaration, cdata as Cdata}
 use Rattle.rules.proofs.LineLaws.{sizes}
-use Rattle.runs.proofs.Body.{inside, around-inside, all_more}
+use Rattle.runs.proofs.Body.{inside, around-inside, all-more}
 
 -- no byte of a line ending
 abbrev isInner : ℕ → Bool
@@ -25,10 +25,10 @@ isInner b = not (isLineEndingByte b)
 all-and : (g : ℕ → Bool) (a b : List ℕ) → all g a ≡ true → all g b ≡ true → all g (a ++ b) ≡ true
 unfolding all
 all-and g [] b h k = k
-all-and g (x ∷ xs) b h k = rw (and_left (g x) (all g xs) h) (all-and g xs b (and_right (g x) (all g xs) h) k)
+all-and g (x ∷ xs) b h k = rw (and-left (g x) (all g xs) h) (all-and g xs b (and-right (g x) (all g xs) h) k)
 
 all-inner : (a : List ℕ) → all isPrivate a ≡ true → all isInner a ≡ true
-all-inner a h = all_more isPrivate isInner (λ x p. rw (excluded isPrivate (byte "\n") x refl p, excluded isPrivate (byte "\r") x refl p)) a h
+all-inner a h = all-more isPrivate isInner (λ x p. rw (excluded isPrivate (byte "\n") x refl p, excluded isPrivate (byte "\r") x refl p)) a h
 
 around-inner : (f : Form) (body : List ℕ) → all isPrivate body ≡ true → all isInner (around f body) ≡ true
 unfolding all
@@ -48,7 +48,7 @@ around-some Cdata body = omega arith
 record Some (ending : List ℕ) (ls : List Line) : Type 0 where
   head : Line
   tail : List Line
-  lead_is : head.lead ≡ ending
+  lead-is : head.lead ≡ ending
   is : ls ≡ head ∷ tail
 
 some-choose : (b : Bool) (e : List ℕ) (x y : List Line) → Some e x → Some e y → Some e (choose b (λ _. x) (λ _. y))
@@ -56,10 +56,10 @@ some-choose true e x y s t = s
 some-choose false e x y s t = t
 
 some-push : (x : ℕ) (e : List ℕ) (ls : List Line) → Some e ls → Some e (push x ls)
-some-push x e ls s = rw s.is record { head = line s.head.flag s.head.lead (x ∷ s.head.content); tail = s.tail; lead_is = s.lead_is; is = refl }
+some-push x e ls s = rw s.is record { head = line s.head.flag s.head.lead (x ∷ s.head.content); tail = s.tail; lead-is = s.lead-is; is = refl }
 
 some-cons : (e : List ℕ) (ls : List Line) → Some e (line 0 e [] ∷ ls)
-some-cons e ls = record { head = line 0 e []; tail = ls; lead_is = refl; is = refl }
+some-cons e ls = record { head = line 0 e []; tail = ls; lead-is = refl; is = refl }
 
 some : (s ending : List ℕ) → Some ending (cutLines false ending s)
 unfolding cutLines
@@ -80,15 +80,15 @@ module _ (ending after : List ℕ) where
   unfolding cutLines all
   stretch [] h = (some after ending).is
   stretch (x ∷ xs) h =
-      let o = not-true (isLineEndingByte x) (and_left (isInner x) (all isInner xs) h) in
-      rw (or_left (eqb x (byte "\n")) (eqb x (byte "\r")) o, or_right (eqb x (byte "\n")) (eqb x (byte "\r")) o, stretch xs (and_right (isInner x) (all isInner xs) h))
+      let o = not-true (isLineEndingByte x) (and-left (isInner x) (all isInner xs) h) in
+      rw (or-left (eqb x (byte "\n")) (eqb x (byte "\r")) o, or-right (eqb x (byte "\n")) (eqb x (byte "\r")) o, stretch xs (and-right (isInner x) (all isInner xs) h))
 
   stretch-cr : (cr : Bool) (m : List ℕ) → 0 < length m → all isInner m ≡ true → Stretch cr m
   unfolding cutLines all
   stretch-cr cr [] pos h = absurd (omega arith)
   stretch-cr cr (x ∷ xs) pos h =
-      let o = not-true (isLineEndingByte x) (and_left (isInner x) (all isInner xs) h) in
-      rw (or_left (eqb x (byte "\n")) (eqb x (byte "\r")) o, or_right (eqb x (byte "\n")) (eqb x (byte "\r")) o, stretch xs (and_right (isInner x) (all isInner xs) h))
+      let o = not-true (isLineEndingByte x) (and-left (isInner x) (all isInner xs) h) in
+      rw (or-left (eqb x (byte "\n")) (eqb x (byte "\r")) o, or-right (eqb x (byte "\n")) (eqb x (byte "\r")) o, stretch xs (and-right (isInner x) (all isInner xs) h))
 
 -- ---- the lines g m of a text in which m stands behind n bytes: m is part of one line, and the rest does not depend on it
 record Place (n : ℕ) (g : List ℕ → List Line) : Type 0 where
@@ -118,8 +118,8 @@ place-cons l n k g e p =
       is = λ m s h. ap (λ (ls : List Line). l ∷ ls) (p.is m s h);
     }
 
-place_push : (x n : ℕ) (g : List ℕ → List Line) → Place n g → Place (suc n) (λ m. push x (g m))
-place_push x n g p = by-earlier p.earlier p.position p.is
+place-push : (x n : ℕ) (g : List ℕ → List Line) → Place n g → Place (suc n) (λ m. push x (g m))
+place-push x n g p = by-earlier p.earlier p.position p.is
   where
     by-earlier : (e : List Line) → sizes e + length p.lead + length p.before ≡ n
         → ((m : List ℕ) → 0 < length m → all isInner m ≡ true → g m ≡ e ++ (line p.flag p.lead (p.before ++ (m ++ p.after)) ∷ p.later)) → Place (suc n) (λ m. push x (g m))
@@ -146,8 +146,8 @@ place_push x n g p = by-earlier p.earlier p.position p.is
           is = λ m s h. ap (push x) (e m s h);
         }
 
-place_at : (n k : ℕ) (g : List ℕ → List Line) → n ≡ k → Place n g → Place k g
-place_at n k g e p = rw (sym e) p
+place-at : (n k : ℕ) (g : List ℕ → List Line) → n ≡ k → Place n g → Place k g
+place-at n k g e p = rw (sym e) p
 
 place : (before after : List ℕ) (cr : Bool) (ending : List ℕ) → (cr ≡ true → length ending ≡ 1) → Place (length ending + length before) (λ m. cutLines cr ending (before ++ (m ++ after)))
 unfolding cutLines
@@ -160,7 +160,7 @@ place [] after cr ending one =
       before = [];
       after = n.head.content;
       later = n.tail;
-      position = omega (arith, ap length n.lead_is);
+      position = omega (arith, ap length n.lead-is);
       is = λ m s h. stretch-cr ending after cr m s h;
     }
 place (x ∷ xs) after cr ending one =
@@ -168,11 +168,11 @@ place (x ∷ xs) after cr ending one =
     let no : false ≡ true → length ending ≡ 1 = λ e. clash true refl (sym e) in
     place-choose (eqb x (byte "\n")) n _ _
     (λ _. place-choose cr n _ _
-    (λ e. let k = one e in place_at (2 + length xs) n _ (omega arith) (place xs after false (bytes "\r\n") (λ e'. clash true refl (sym e'))))
+    (λ e. let k = one e in place-at (2 + length xs) n _ (omega arith) (place xs after false (bytes "\r\n") (λ e'. clash true refl (sym e'))))
     (λ _. place-cons (line 0 ending []) n (1 + length xs) _ (omega arith) (place xs after false (bytes "\n") (λ e'. clash true refl (sym e')))))
     (λ _. place-choose (eqb x (byte "\r")) n _ _
     (λ _. place-cons (line 0 ending []) n (1 + length xs) _ (omega arith) (place xs after true (bytes "\r") (λ e'. refl)))
-    (λ _. place_at (suc (length ending + length xs)) n _ (omega arith) (place_push x (length ending + length xs) _ (place xs after false ending no))))
+    (λ _. place-at (suc (length ending + length xs)) n _ (omega arith) (place-push x (length ending + length xs) _ (place xs after false ending no))))
 
 -- ---- flags do not depend on the bytes of a line
 record Flagged (flags : List ℕ) (e : List Line) (f : ℕ) (lead : List ℕ) (later : List Line) : Type 0 where
@@ -206,11 +206,11 @@ pub record BodyLine (flags : List ℕ) {one two : List ℕ} (d : InlineSwap one 
   pub after : List ℕ
   pub later : List Line
   pub position : sizes earlier + length lead + length before ≡ length d.before
-  pub one-is : lines_of flags one ≡ earlier ++ (line flag lead (before ++ (byte "<" ∷ inside d.form d.body₁ after)) ∷ later)
-  pub two_is : lines_of flags two ≡ earlier ++ (line flag lead (before ++ (byte "<" ∷ inside d.form d.body₂ after)) ∷ later)
+  pub one-is : linesOf flags one ≡ earlier ++ (line flag lead (before ++ (byte "<" ∷ inside d.form d.body₁ after)) ∷ later)
+  pub two-is : linesOf flags two ≡ earlier ++ (line flag lead (before ++ (byte "<" ∷ inside d.form d.body₂ after)) ∷ later)
 
 pub body-line : (flags : List ℕ) {one two : List ℕ} (d : InlineSwap one two) → BodyLine flags d
-unfolding lines_of
+unfolding linesOf
 body-line flags d =
     let f = d.form in
     let p = place d.before d.after false [] (λ e. clash true refl (sym e)) in
@@ -229,5 +229,5 @@ body-line flags d =
       later = w.behind;
       position = omega (arith, w.size, p.position);
       one-is = ap (λ (t : List ℕ). flagged flags (cutLines false [] t)) d.one-is ∙ on d.body₁ d.private₁;
-      two_is = ap (λ (t : List ℕ). flagged flags (cutLines false [] t)) d.two_is ∙ on d.body₂ d.private₂;
+      two-is = ap (λ (t : List ℕ). flagged flags (cutLines false [] t)) d.two-is ∙ on d.body₂ d.private₂;
     }

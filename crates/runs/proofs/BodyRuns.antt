@@ -9,12 +9,12 @@ use lib.ListN.{length, length-append}
 use Rattle.lexical.specs.Text.{byte}
 use Rattle.lexical.specs.Line.{isBlank}
 use Rattle.lexical.specs.Name.{all}
-use Rattle.rules.specs.Lines.{Line, line, lines_of}
-use Rattle.rules.specs.Block.{kind_of, closes, extentOf, inLast, stopAfter, goesOn as reaches}
+use Rattle.rules.specs.Lines.{Line, line, linesOf}
+use Rattle.rules.specs.Block.{kindOf, closes, extentOf, inLast, stopAfter, goesOn as reaches}
 use Rattle.rules.specs.Withhold.{Mark, blockFirst, blockMore, blank, paragraphFirst, paragraphMore, marks, goesOn, inlinePieces, linePieces, pieces, shown, count}
 use Rattle.rules.specs.Private.{isPrivate, Form, around, any, spans, InlineSwap, WithheldBody, SameRuns}
 use Rattle.rules.specs.declared.Rules.{Rules}
-use Rattle.runs.proofs.Corresponding.{At, early, Corresponding, done, next, both, late-at, same_count, same-outside}
+use Rattle.runs.proofs.Corresponding.{At, early, Corresponding, done, next, both, late-at, same-count, same-outside}
 use Rattle.runs.proofs.Alike.{Pair, ahead, blank-same}
 use Rattle.runs.proofs.Body.{inside, around-inside}
 use Rattle.runs.proofs.Steady.{kind-same, closes-same}
@@ -46,7 +46,7 @@ module _ (ρ : Rules) (f : Form) (b₁ b₂ : List ℕ) (h₁ : all isPrivate b�
   blank-line : isBlank line₁.content ≡ isBlank line₂.content
   blank-line = let r : Pair (inside f b₁ z) (inside f b₂ z) z line₁.content line₂.content = ahead a in blank-same r
 
-  kind-line : kind_of ρ line₁ ≡ kind_of ρ line₂
+  kind-line : kindOf ρ line₁ ≡ kindOf ρ line₂
   kind-line = kind-same ρ f b₁ b₂ z h₁ h₂ flag lead a
 
   closes-line : (k : ℕ) → closes ρ k line₁.content ≡ closes ρ k line₂.content
@@ -68,10 +68,10 @@ module _ (ρ : Rules) (f : Form) (b₁ b₂ : List ℕ) (h₁ : all isPrivate b�
   marks-same : (e : List Line) (n : ℕ) (par : Bool) → marks ρ n par (one e) ≡ marks ρ n par (two e)
   unfolding marks
   marks-same [] (suc n) par = refl
-  marks-same [] zero par = rw (kind-line, blank-line, extent-line (kind_of ρ line₂))
+  marks-same [] zero par = rw (kind-line, blank-line, extent-line (kindOf ρ line₂))
   marks-same (l ∷ e) (suc n) par = rw (marks-same e n false)
   marks-same (l ∷ e) zero par =
-      rw (marks-same e zero false, marks-same e zero true, extent-same e (kind_of ρ l) l, marks-same e ((extentOf ρ (kind_of ρ l) l (two e)).lines - 1) false)
+      rw (marks-same e zero false, marks-same e zero true, extent-same e (kindOf ρ l) l, marks-same e ((extentOf ρ (kindOf ρ l) l (two e)).lines - 1) false)
 
   -- ---- pieces; the body stands at p
   module _ (p : ℕ) where
@@ -144,35 +144,35 @@ module _ (ρ : Rules) (f : Form) (b₁ b₂ : List ℕ) (h₁ : all isPrivate b�
         pieces-ahead ρ f b₁ b₂ q h₁ h₂ p d₁ d₂ (around-some f b₁) (around-some f b₂) (inside-length f b₁ q) (inside-length f b₂ q) _ _ i u e (omega arith) (omega arith)
 
     -- behind the line
-    after_line : (ms : List Mark) (i : ℕ) → i + length lead + length a ≡ p
+    after-line : (ms : List Mark) (i : ℕ) → i + length lead + length a ≡ p
         → Corresponding p (p + d₁) (p + d₂) (linePieces ρ (i + length lead + length line₁.content) ms later) (linePieces ρ (i + length lead + length line₂.content) ms later)
-    after_line ms i e =
+    after-line ms i e =
         lines-behind ρ p (p + d₁) (p + d₂) ms later (i + length lead + length line₁.content) (i + length lead + length line₂.content) (length z) (omega (arith, content-length b₁)) (omega (arith, content-length b₂))
 
-    lines_same : (ms : List Mark) (e : List Line) (i : ℕ) → i + sizes e + length lead + length a ≡ p
+    lines-same : (ms : List Mark) (e : List Line) (i : ℕ) → i + sizes e + length lead + length a ≡ p
         → Corresponding p (p + d₁) (p + d₂) (linePieces ρ i ms (one e)) (linePieces ρ i ms (two e))
     unfolding linePieces
-    lines_same [] e i h = done
-    lines_same (blockFirst k x ∷ ms) [] i h = next (early (i + length lead) (omega arith)) (stop-here x.lines (i + length lead) (omega arith)) (after_line ms i (omega arith))
-    lines_same (blockMore ∷ ms) [] i h = after_line ms i (omega arith)
-    lines_same (blank ∷ ms) [] i h = after_line ms i (omega arith)
-    lines_same (paragraphFirst ∷ ms) [] i h = both (text-pieces (i + length lead) (text-here (i + length lead) (goesOn ms later) (omega arith))) (after_line ms i (omega arith))
-    lines_same (paragraphMore ∷ ms) [] i h = after_line ms i (omega arith)
-    lines_same (blockFirst k x ∷ ms) (l ∷ e) i h =
-        next (early (i + length l.lead) (omega arith)) (stop-earlier x.lines e l (i + length l.lead) (omega arith)) (lines_same ms e (i + length l.lead + length l.content) (omega arith))
-    lines_same (blockMore ∷ ms) (l ∷ e) i h = lines_same ms e (i + length l.lead + length l.content) (omega arith)
-    lines_same (blank ∷ ms) (l ∷ e) i h = lines_same ms e (i + length l.lead + length l.content) (omega arith)
-    lines_same (paragraphFirst ∷ ms) (l ∷ e) i h =
+    lines-same [] e i h = done
+    lines-same (blockFirst k x ∷ ms) [] i h = next (early (i + length lead) (omega arith)) (stop-here x.lines (i + length lead) (omega arith)) (after-line ms i (omega arith))
+    lines-same (blockMore ∷ ms) [] i h = after-line ms i (omega arith)
+    lines-same (blank ∷ ms) [] i h = after-line ms i (omega arith)
+    lines-same (paragraphFirst ∷ ms) [] i h = both (text-pieces (i + length lead) (text-here (i + length lead) (goesOn ms later) (omega arith))) (after-line ms i (omega arith))
+    lines-same (paragraphMore ∷ ms) [] i h = after-line ms i (omega arith)
+    lines-same (blockFirst k x ∷ ms) (l ∷ e) i h =
+        next (early (i + length l.lead) (omega arith)) (stop-earlier x.lines e l (i + length l.lead) (omega arith)) (lines-same ms e (i + length l.lead + length l.content) (omega arith))
+    lines-same (blockMore ∷ ms) (l ∷ e) i h = lines-same ms e (i + length l.lead + length l.content) (omega arith)
+    lines-same (blank ∷ ms) (l ∷ e) i h = lines-same ms e (i + length l.lead + length l.content) (omega arith)
+    lines-same (paragraphFirst ∷ ms) (l ∷ e) i h =
         both (text-pieces (i + length l.lead) (text-after l.content (i + length l.lead) (text-on ms e (i + length l.lead + length l.content) (omega arith))))
-        (lines_same ms e (i + length l.lead + length l.content) (omega arith))
-    lines_same (paragraphMore ∷ ms) (l ∷ e) i h = lines_same ms e (i + length l.lead + length l.content) (omega arith)
+        (lines-same ms e (i + length l.lead + length l.content) (omega arith))
+    lines-same (paragraphMore ∷ ms) (l ∷ e) i h = lines-same ms e (i + length l.lead + length l.content) (omega arith)
 
 -- ---- the theorems
 -- the marks of the two bulletins are the same
-pub body-marks : (ρ : Rules) (flags : List ℕ) {one two : List ℕ} (d : InlineSwap one two) → marks ρ 0 false (lines_of flags one) ≡ marks ρ 0 false (lines_of flags two)
+pub body-marks : (ρ : Rules) (flags : List ℕ) {one two : List ℕ} (d : InlineSwap one two) → marks ρ 0 false (linesOf flags one) ≡ marks ρ 0 false (linesOf flags two)
 body-marks ρ flags d =
     let w = body-line flags d in
-    rw (w.one-is, w.two_is) (marks-same ρ d.form d.body₁ d.body₂ d.private₁ d.private₂ w.flag w.lead w.before w.after w.later w.earlier 0 false)
+    rw (w.one-is, w.two-is) (marks-same ρ d.form d.body₁ d.body₂ d.private₁ d.private₂ w.flag w.lead w.before w.after w.later w.earlier 0 false)
 
 -- the pieces of the two bulletins correspond
 pub body-pieces : (ρ : Rules) (flags : List ℕ) {one two : List ℕ} (d : InlineSwap one two)
@@ -183,8 +183,8 @@ body-pieces ρ flags d =
     let m = body-marks ρ flags d in
     let p = length d.before in
     rw (sym m)
-    (rw (w.one-is, w.two_is)
-    (lines_same ρ d.form d.body₁ d.body₂ d.private₁ d.private₂ w.flag w.lead w.before w.after w.later p _ w.earlier 0 (omega (arith, w.position))))
+    (rw (w.one-is, w.two-is)
+    (lines-same ρ d.form d.body₁ d.body₂ d.private₁ d.private₂ w.flag w.lead w.before w.after w.later p _ w.earlier 0 (omega (arith, w.position))))
 
 pub body-runs : (ρ : Rules) (flags : List ℕ) {one two : List ℕ} (d : InlineSwap one two) → WithheldBody ρ flags d → SameRuns ρ flags one two
 unfolding shown count
@@ -194,5 +194,5 @@ body-runs ρ flags {one} {two} d h =
     let m₂ = around d.form d.body₂ in
     let held : any (spans (length d.before) (length d.before + length m₁)) (pieces ρ one flags) ≡ true = rw (length-append d.before m₁) at h in
     let s = same-outside d.before m₁ m₂ d.after (around-some d.form d.body₁) (around-some d.form d.body₂) c held in
-    let b : shown ρ one flags ≡ shown ρ two flags = rw (sym d.one-is, sym d.two_is) at s in
-    record { same_bytes = b; same_length = ap length b; same_count = same_count c }
+    let b : shown ρ one flags ≡ shown ρ two flags = rw (sym d.one-is, sym d.two-is) at s in
+    record { same-bytes = b; same-length = ap length b; same-count = same-count c }

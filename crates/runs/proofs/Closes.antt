@@ -8,7 +8,7 @@ use lib.Dec.{eqb, ltb}
 use lib.ListN.{length}
 use borrow.Author.Tests.{eqb-true, eq-eqb, ne_eqb, lt-ltb, le-ltb, ltb-true, ltb-false}
 use Rattle.lexical.specs.Text.{byte, bytes}
-use Rattle.lexical.proofs.Cases.{split, and_yes, and_no}
+use Rattle.lexical.proofs.Cases.{split, and-yes, and-no}
 use Rattle.rules.specs.Search.{choose, begins, somewhere, before}
 use Rattle.rules.specs.Block.{isRawEnd, beforeEven, beforeCloser, closes}
 use Rattle.rules.specs.declared.Rules.{Rules}
@@ -39,24 +39,24 @@ Evenly s = (n : ℕ) → n % 2 ≡ 0 → closesEven n s ≡ ((begins (bytes ">")
 abbrev Oddly : List ℕ → Type 0
 Oddly s = (n : ℕ) → n % 2 ≡ 1 → closesEven n s ≡ (begins (bytes "]>") s || Within n s)
 
-zero_is : (s : List ℕ) → Evenly s → closesEven 0 s ≡ Within 0 s
-zero_is s a = a 0 refl ∙ ap (λ b. b || Within 0 s) (and_no (begins (bytes ">") s))
+zero-is : (s : List ℕ) → Evenly s → closesEven 0 s ≡ Within 0 s
+zero-is s a = a 0 refl ∙ ap (λ b. b || Within 0 s) (and-no (begins (bytes ">") s))
 
 even-after : (s : List ℕ) (n : ℕ) → n % 2 ≡ 1 → Evenly s → closesEven (suc n) s ≡ (begins (bytes ">") s || Within (suc n) s)
 even-after s n o a =
-    a (suc n) (omega arith) ∙ ap (λ b. (begins (bytes ">") s && not b) || Within (suc n) s) (ne_eqb (suc n) 0 (λ z. omega arith)) ∙ ap (λ b. b || Within (suc n) s) (and_yes (begins (bytes ">") s))
+    a (suc n) (omega arith) ∙ ap (λ b. (begins (bytes ">") s && not b) || Within (suc n) s) (ne_eqb (suc n) 0 (λ z. omega arith)) ∙ ap (λ b. b || Within (suc n) s) (and-yes (begins (bytes ">") s))
 
-odd_step : (x : ℕ) (xs : List ℕ) → Evenly xs → Oddly (x ∷ xs)
+odd-step : (x : ℕ) (xs : List ℕ) → Evenly xs → Oddly (x ∷ xs)
 unfolding closesEven beforeEven
-odd_step x xs a n o =
+odd-step x xs a n o =
     let e : eqb (n % 2) 0 ≡ false = ne_eqb (n % 2) 0 (λ z. omega arith) in
     split (eqb x (byte "]"))
-    (λ h. simp (h, e, and_no, more) (even-after xs n o a))
-    (λ h. simp (h, e, and_no, more) (zero_is xs a))
+    (λ h. simp (h, e, and-no, more) (even-after xs n o a))
+    (λ h. simp (h, e, and-no, more) (zero-is xs a))
 
-even_step : (x : ℕ) (xs : List ℕ) → Evenly xs → Oddly xs → Evenly (x ∷ xs)
+even-step : (x : ℕ) (xs : List ℕ) → Evenly xs → Oddly xs → Evenly (x ∷ xs)
 unfolding closesEven beforeEven
-even_step x xs a b n o =
+even-step x xs a b n o =
     let e : eqb (n % 2) 0 ≡ true = eq-eqb (n % 2) 0 o in
     split (eqb x (byte "]"))
     (λ h. let g : eqb x (byte ">") ≡ false = rw (eqb-true x (byte "]") h) refl in
@@ -64,16 +64,16 @@ even_step x xs a b n o =
     (λ t. let u = b (suc n) (omega arith) in simp (h, e, g, t) (u ∙ ap (λ c. c || Within (suc n) xs) t ∙ sym (lt-ltb 0 (suc (length xs)) (omega arith))))
     (λ t. let u = b (suc n) (omega arith) in simp (h, e, g, t, more) (u ∙ ap (λ c. c || Within (suc n) xs) t)))
     (λ h. split (eqb x (byte ">"))
-    (λ g. simp (h, e, g, and_yes, more) (ap (λ c. not (eqb n 0) || c) (zero_is xs a)))
-    (λ g. simp (h, e, g, more) (zero_is xs a)))
+    (λ g. simp (h, e, g, and-yes, more) (ap (λ c. not (eqb n 0) || c) (zero-is xs a)))
+    (λ g. simp (h, e, g, more) (zero-is xs a)))
 
 even-all : (s : List ℕ) → Evenly s × Oddly s
 unfolding closesEven beforeEven
 even-all [] = ((λ n o. refl), (λ n o. refl))
-even-all (x ∷ xs) = let ih = even-all xs in (even_step x xs ih.0 ih.1, odd_step x xs ih.0)
+even-all (x ∷ xs) = let ih = even-all xs in (even-step x xs ih.0 ih.1, odd-step x xs ih.0)
 
 even-within : (s : List ℕ) → ltb (beforeEven 0 s) (length s) ≡ closesEven 0 s
-even-within s = sym (zero_is s (even-all s).0)
+even-within s = sym (zero-is s (even-all s).0)
 
 -- a line contains the closer, by a search
 pub closes-is : (ρ : Rules) (k : ℕ) (s : List ℕ) → closes ρ k s

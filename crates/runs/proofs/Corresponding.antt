@@ -10,7 +10,7 @@ use native.Mathlib.Omega.{arith}
 use lib.Dec.{leb, ltb}
 use lib.ListN.{length}
 use borrow.Author.Tests.{le-leb, lt-leb, lt-ltb, le-ltb, leb-true, leb-false, ltb-true, ltb-false}
-use Rattle.lexical.proofs.Cases.{split, and_left, and_right, or_yes}
+use Rattle.lexical.proofs.Cases.{split, and-left, and-right, or-yes}
 use Rattle.rules.specs.Withhold.{Which, Piece, piece, holds, isWithheld, outside}
 use Rattle.rules.specs.Private.{any, spans, encloses}
 
@@ -25,9 +25,9 @@ pub data Corresponding (p j₁ j₂ : ℕ) : List Piece → List Piece → Type 
   next : {a₁ a₂ b₁ b₂ : ℕ} {w : Which} {ps₁ ps₂ : List Piece} → At p j₁ j₂ a₁ a₂ → At p j₁ j₂ b₁ b₂ → Corresponding p j₁ j₂ ps₁ ps₂
       → Corresponding p j₁ j₂ (piece a₁ b₁ w ∷ ps₁) (piece a₂ b₂ w ∷ ps₂)
 
-pub same_count : {p j₁ j₂ : ℕ} {ps₁ ps₂ : List Piece} → Corresponding p j₁ j₂ ps₁ ps₂ → length ps₁ ≡ length ps₂
-same_count done = refl
-same_count (next a b c) = ap suc (same_count c)
+pub same-count : {p j₁ j₂ : ℕ} {ps₁ ps₂ : List Piece} → Corresponding p j₁ j₂ ps₁ ps₂ → length ps₁ ≡ length ps₂
+same-count done = refl
+same-count (next a b c) = ap suc (same-count c)
 
 pub both : {p j₁ j₂ : ℕ} {ps₁ ps₂ qs₁ qs₂ : List Piece} → Corresponding p j₁ j₂ ps₁ ps₂ → Corresponding p j₁ j₂ qs₁ qs₂ → Corresponding p j₁ j₂ (ps₁ ++ qs₁) (ps₂ ++ qs₂)
 both done d = d
@@ -42,11 +42,11 @@ late-at c e h = rw (e, h) (late c)
 
 -- ---- what is withheld of the one is withheld of the other
 module _ (p j₁ j₂ : ℕ) (h₁ : p < j₁) (h₂ : p < j₂) where
-  at_most_moves : {a₁ a₂ i₁ i₂ : ℕ} → At p j₁ j₂ a₁ a₂ → At p j₁ j₂ i₁ i₂ → leb a₁ i₁ ≡ leb a₂ i₂
-  at_most_moves (early a l) (early i m) = refl
-  at_most_moves (early a l) (late d) = le-leb a (j₁ + d) (omega arith) ∙ sym (le-leb a (j₂ + d) (omega arith))
-  at_most_moves (late c) (early i m) = lt-leb (j₁ + c) i (omega arith) ∙ sym (lt-leb (j₂ + c) i (omega arith))
-  at_most_moves (late c) (late d) =
+  at-most-moves : {a₁ a₂ i₁ i₂ : ℕ} → At p j₁ j₂ a₁ a₂ → At p j₁ j₂ i₁ i₂ → leb a₁ i₁ ≡ leb a₂ i₂
+  at-most-moves (early a l) (early i m) = refl
+  at-most-moves (early a l) (late d) = le-leb a (j₁ + d) (omega arith) ∙ sym (le-leb a (j₂ + d) (omega arith))
+  at-most-moves (late c) (early i m) = lt-leb (j₁ + c) i (omega arith) ∙ sym (lt-leb (j₂ + c) i (omega arith))
+  at-most-moves (late c) (late d) =
       split (leb c d) (λ h. le-leb (j₁ + c) (j₁ + d) (omega (arith, leb-true c d h)) ∙ sym (le-leb (j₂ + c) (j₂ + d) (omega (arith, leb-true c d h))))
       (λ h. lt-leb (j₁ + c) (j₁ + d) (omega (arith, leb-false c d h)) ∙ sym (lt-leb (j₂ + c) (j₂ + d) (omega (arith, leb-false c d h))))
 
@@ -64,19 +64,19 @@ module _ (p j₁ j₂ : ℕ) (h₁ : p < j₁) (h₂ : p < j₂) where
       → any (spans i₁ k₁) ps₁ ≡ any (spans i₂ k₂) ps₂
   unfolding any
   spans-moves done i k = refl
-  spans-moves (next a b c) i k = rw (at_most_moves a i, at_most_moves k b, spans-moves c i k)
+  spans-moves (next a b c) i k = rw (at-most-moves a i, at-most-moves k b, spans-moves c i k)
 
   pub encloses-moves : {ps₁ ps₂ : List Piece} {i₁ i₂ k₁ k₂ : ℕ} → Corresponding p j₁ j₂ ps₁ ps₂ → At p j₁ j₂ i₁ i₂ → At p j₁ j₂ k₁ k₂
       → any (encloses i₁ k₁) ps₁ ≡ any (encloses i₂ k₂) ps₂
   unfolding any
   encloses-moves done i k = refl
-  encloses-moves (next a b c) i k = rw (below-moves a i, at_most_moves k b, encloses-moves c i k)
+  encloses-moves (next a b c) i k = rw (below-moves a i, at-most-moves k b, encloses-moves c i k)
 
   -- an index is withheld where the same place of the other is
   withheld-moves : {ps₁ ps₂ : List Piece} {i₁ i₂ : ℕ} → Corresponding p j₁ j₂ ps₁ ps₂ → At p j₁ j₂ i₁ i₂ → isWithheld i₁ ps₁ ≡ isWithheld i₂ ps₂
   unfolding isWithheld
   withheld-moves done i = refl
-  withheld-moves (next a b c) i = rw (at_most_moves a i, below-moves i b, withheld-moves c i)
+  withheld-moves (next a b c) i = rw (at-most-moves a i, below-moves i b, withheld-moves c i)
 
 -- a piece that spans a stretch withholds each index of it
 spanned : (p j i : ℕ) (ps : List Piece) → p ≤ i → i < j → any (spans p j) ps ≡ true → isWithheld i ps ≡ true
@@ -85,10 +85,10 @@ spanned p j i [] a b h = h
 spanned p j i (q ∷ ps) a b h =
     split (leb q.start p && leb j q.stop)
     (λ t.
-    let u = leb-true q.start p (and_left (leb q.start p) (leb j q.stop) t) in
-    let v = leb-true j q.stop (and_right (leb q.start p) (leb j q.stop) t) in
+    let u = leb-true q.start p (and-left (leb q.start p) (leb j q.stop) t) in
+    let v = leb-true j q.stop (and-right (leb q.start p) (leb j q.stop) t) in
     rw (le-leb q.start i (omega arith), lt-ltb i q.stop (omega arith)))
-    (λ t. rw (spanned p j i ps a b (rw t at h)) (or_yes (holds i q)))
+    (λ t. rw (spanned p j i ps a b (rw t at h)) (or-yes (holds i q)))
 
 -- ---- the bytes outside
 outside-held : (p j : ℕ) (ps : List Piece) → any (spans p j) ps ≡ true → (m s : List ℕ) (i : ℕ) → p ≤ i → i + length m ≡ j → outside i ps (m ++ s) ≡ outside j ps s
@@ -97,10 +97,10 @@ outside-held p j ps h [] s i l e = let z : i ≡ j = omega arith in rw z
 outside-held p j ps h (x ∷ m) s i l e = rw (spanned p j i ps l (omega arith) h) (outside-held p j ps h m s (suc i) (omega arith) (omega arith))
 
 module _ (p j₁ j₂ : ℕ) (h₁ : p < j₁) (h₂ : p < j₂) {ps₁ ps₂ : List Piece} (c : Corresponding p j₁ j₂ ps₁ ps₂) where
-  outside_behind : (s : List ℕ) (d : ℕ) → outside (j₁ + d) ps₁ s ≡ outside (j₂ + d) ps₂ s
+  outside-behind : (s : List ℕ) (d : ℕ) → outside (j₁ + d) ps₁ s ≡ outside (j₂ + d) ps₂ s
   unfolding outside
-  outside_behind [] d = refl
-  outside_behind (x ∷ s) d = rw (withheld-moves p j₁ j₂ h₁ h₂ c (late d), ← add-suc j₁ d, ← add-suc j₂ d, outside_behind s (suc d))
+  outside-behind [] d = refl
+  outside-behind (x ∷ s) d = rw (withheld-moves p j₁ j₂ h₁ h₂ c (late d), ← add-suc j₁ d, ← add-suc j₂ d, outside-behind s (suc d))
 
   outside-before : (u s t : List ℕ) (i : ℕ) → i + length u ≡ p → outside p ps₁ s ≡ outside p ps₂ t → outside i ps₁ (u ++ s) ≡ outside i ps₂ (u ++ t)
   unfolding outside
@@ -125,7 +125,7 @@ same-outside before m₁ m₂ after {ps₁} {ps₂} l₁ l₂ c h =
     let j₂ = p + length m₂ in
     let h₁ : p < j₁ = omega arith in
     let h₂ : p < j₂ = omega arith in
-    let e : outside (j₁ + 0) ps₁ after ≡ outside (j₂ + 0) ps₂ after = outside_behind p j₁ j₂ h₁ h₂ c after 0 in
+    let e : outside (j₁ + 0) ps₁ after ≡ outside (j₂ + 0) ps₂ after = outside-behind p j₁ j₂ h₁ h₂ c after 0 in
     outside-before p j₁ j₂ h₁ h₂ c before (m₁ ++ after) (m₂ ++ after) 0 (omega arith)
     (outside-held p j₁ ps₁ h m₁ after p (omega arith) refl
     ∙ (rw (add-zero, add-zero) at e)

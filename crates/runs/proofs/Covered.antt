@@ -16,11 +16,11 @@ use Rattle.runs.proofs.Corresponding.{Corresponding}
 use Rattle.runs.proofs.Steady.{quiet}
 use Rattle.rules.proofs.LineLaws.{sizes}
 use Rattle.runs.proofs.Behind.{lines-behind}
-use Rattle.runs.proofs.PrivateLines.{Privates, no_more, one_more}
+use Rattle.runs.proofs.PrivateLines.{Privates, no-more, one-more}
 
-pub same_number : {a b : List Line} → Privates a b → length a ≡ length b
-same_number no_more = refl
-same_number (one_more f e c₁ c₂ h k r) = ap suc (same_number r)
+pub same-number : {a b : List Line} → Privates a b → length a ≡ length b
+same-number no-more = refl
+same-number (one-more f e c₁ c₂ h k r) = ap suc (same-number r)
 
 -- ---- extents
 -- an extent has a first line
@@ -33,8 +33,8 @@ module _ (ρ : Rules) (k : ℕ) where
   module _ (low : k ≤ 5) (back : List Line) where
     reach-private : (a b : List Line) → Privates a b → goesOn ρ k (a ++ back) ≡ goesOn ρ k (b ++ back)
     unfolding goesOn
-    reach-private a b no_more = refl
-    reach-private a b (one_more f e c₁ c₂ {one = x} {two = y} h j r) =
+    reach-private a b no-more = refl
+    reach-private a b (one-more f e c₁ c₂ {one = x} {two = y} h j r) =
         rw (lt-leb 6 k (omega arith), quiet ρ k c₁ h, quiet ρ k c₂ j, reach-private x y r)
 
     reach-over : (e a b : List Line) → Privates a b → goesOn ρ k (e ++ (a ++ back)) ≡ goesOn ρ k (e ++ (b ++ back))
@@ -104,9 +104,9 @@ stop-within (y ∷ z ∷ x) s t (suc m) i l h = stop-within (z ∷ x) s t m (i +
 module _ (ρ : Rules) (back : List Line) where
   private-marks : (a b : List Line) (n : ℕ) (par : Bool) → length a ≤ n → Privates a b → marks ρ n par (a ++ back) ≡ marks ρ n par (b ++ back)
   unfolding marks
-  private-marks a b n par h no_more = refl
-  private-marks a b zero par h (one_more f e c₁ c₂ p q r) = absurd (omega arith)
-  private-marks a b (suc n) par h (one_more f e c₁ c₂ {one = x} {two = y} p q r) = ap (λ (ms : List Mark). blockMore ∷ ms) (private-marks x y n false (omega arith) r)
+  private-marks a b n par h no-more = refl
+  private-marks a b zero par h (one-more f e c₁ c₂ p q r) = absurd (omega arith)
+  private-marks a b (suc n) par h (one-more f e c₁ c₂ {one = x} {two = y} p q r) = ap (λ (ms : List Mark). blockMore ∷ ms) (private-marks x y n false (omega arith) r)
 
   pub covered-marks : (e a b : List Line) (n : ℕ) (par : Bool) → length e + length a ≤ n → Privates a b → marks ρ n par (e ++ (a ++ back)) ≡ marks ρ n par (e ++ (b ++ back))
   unfolding marks
@@ -118,9 +118,9 @@ module _ (ρ : Rules) (back : List Line) where
     private-pieces : (a b : List Line) (n : ℕ) (par : Bool) (i₁ i₂ : ℕ) → length a ≤ n → i₁ + sizes a ≡ j₁ → i₂ + sizes b ≡ j₂ → Privates a b
         → Corresponding p j₁ j₂ (linePieces ρ i₁ (marks ρ n par (a ++ back)) (a ++ back)) (linePieces ρ i₂ (marks ρ n par (a ++ back)) (b ++ back))
     unfolding marks linePieces
-    private-pieces a b n par i₁ i₂ h e₁ e₂ no_more = lines-behind ρ p j₁ j₂ (marks ρ n par back) back i₁ i₂ 0 (omega arith) (omega arith)
-    private-pieces a b zero par i₁ i₂ h e₁ e₂ (one_more f e c₁ c₂ s t r) = absurd (omega arith)
-    private-pieces a b (suc n) par i₁ i₂ h e₁ e₂ (one_more f e c₁ c₂ {one = x} {two = y} s t r) =
+    private-pieces a b n par i₁ i₂ h e₁ e₂ no-more = lines-behind ρ p j₁ j₂ (marks ρ n par back) back i₁ i₂ 0 (omega arith) (omega arith)
+    private-pieces a b zero par i₁ i₂ h e₁ e₂ (one-more f e c₁ c₂ s t r) = absurd (omega arith)
+    private-pieces a b (suc n) par i₁ i₂ h e₁ e₂ (one-more f e c₁ c₂ {one = x} {two = y} s t r) =
         private-pieces x y n false (i₁ + length e + length c₁) (i₂ + length e + length c₂) (omega arith) (omega arith) (omega arith) r
 
     pub covered-pieces : (e a b : List Line) (n : ℕ) (par : Bool) (i : ℕ) → length e + length a ≤ n → i + sizes e + sizes a ≡ j₁ → i + sizes e + sizes b ≡ j₂ → Privates a b

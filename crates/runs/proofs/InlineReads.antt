@@ -11,14 +11,14 @@ use borrow.Author.Tests.{not-true}
 use Rattle.lexical.specs.Text.{byte, bytes, first}
 use Rattle.lexical.specs.Byte.{isLetter}
 use Rattle.lexical.specs.Name.{all, cdataPrefix}
-use Rattle.lexical.proofs.Cases.{split, and_left, and_right}
+use Rattle.lexical.proofs.Cases.{split, and-left, and-right}
 use Rattle.rules.specs.Search.{choose, begins, Left, left, nothing, throughFirst}
 use Rattle.rules.specs.Tag.{inlineTags}
 use Rattle.rules.specs.Inline.{comment, instruction, declaration, htmlTag, Prefix, whole, letters, prefix, Read, takes, lacks, carrying, cdataBody, rawHtml, keeping, readInline}
 use Rattle.rules.specs.Private.{Form, closer, comment as Comment, instruction as Instruction, declaration as Declaration, cdata as Cdata}
 use Rattle.rules.specs.declared.Rules.{Rules}
 use Rattle.rules.proofs.Comment.{comment-is}
-use Rattle.runs.proofs.Alike.{AtMost, Alike, Pair, ahead, behind, Lefts, lefts, nothings, View, at-end, at-opening, at_byte, angleless, view, same-lefts, first-same, begins-same, drop-pair}
+use Rattle.runs.proofs.Alike.{AtMost, Alike, Pair, ahead, behind, Lefts, lefts, nothings, View, at-end, at-opening, at-byte, angleless, view, same-lefts, first-same, begins-same, drop-pair}
 use Rattle.runs.proofs.Tags.{choose-lefts, or-lefts, class-pair, and-fails, open-lefts, close-lefts}
 
 -- ---- closers
@@ -56,17 +56,17 @@ module _ {w₁ w₂ q : List ℕ} (alike : Alike w₁ w₂ q) (x : ℕ) where
   comment-lefts {s} {t} r =
       rw (comment-is (x ∷ s), comment-is (x ∷ t))
       (choose-lefts (eqb x (byte "<") && begins (bytes "!--") s) (eqb x (byte "<") && begins (bytes "!--") t) (ap (λ (b : Bool). eqb x (byte "<") && b) (begins-same (bytes "!--") refl r))
-      (λ h. through-lefts alike Comment (drop-pair (bytes "!") refl (shorter s (and_right (eqb x (byte "<")) (begins (bytes "!--") s) h)) r)) (λ h. nothings))
+      (λ h. through-lefts alike Comment (drop-pair (bytes "!") refl (shorter s (and-right (eqb x (byte "<")) (begins (bytes "!--") s) h)) r)) (λ h. nothings))
     where
       shorter : (s : List ℕ) → begins (bytes "!--") s ≡ true → begins (bytes "!") s ≡ true
       shorter [] h = h
-      shorter (y ∷ ys) h = rw (and_left (eqb y (byte "!")) (begins (bytes "--") ys) h)
+      shorter (y ∷ ys) h = rw (and-left (eqb y (byte "!")) (begins (bytes "--") ys) h)
 
   instruction-lefts : {s t : List ℕ} → Pair w₁ w₂ q s t → Lefts w₁ w₂ q (instruction (x ∷ s)) (instruction (x ∷ t))
   unfolding instruction all
   instruction-lefts {s} {t} r =
       choose-lefts (eqb x (byte "<") && begins (bytes "?") s) (eqb x (byte "<") && begins (bytes "?") t) (ap (λ (b : Bool). eqb x (byte "<") && b) (begins-same (bytes "?") refl r))
-      (λ h. through-lefts alike Instruction (drop-pair (bytes "?") refl (and_right (eqb x (byte "<")) (begins (bytes "?") s) h) r)) (λ h. nothings)
+      (λ h. through-lefts alike Instruction (drop-pair (bytes "?") refl (and-right (eqb x (byte "<")) (begins (bytes "?") s) h) r)) (λ h. nothings)
 
   declaration-lefts : {s t : List ℕ} → Pair w₁ w₂ q s t → Lefts w₁ w₂ q (declaration (x ∷ s)) (declaration (x ∷ t))
   unfolding declaration
@@ -75,12 +75,12 @@ module _ {w₁ w₂ q : List ℕ} (alike : Alike w₁ w₂ q) (x : ℕ) where
       by-view : {s t : List ℕ} → View w₁ w₂ q s t → Lefts w₁ w₂ q (declaration (x ∷ s)) (declaration (x ∷ t))
       by-view at-end = rw (and-fails (eqb x (byte "<"))) nothings
       by-view at-opening = rw (and-fails (eqb x (byte "<"))) nothings
-      by-view (at_byte y {s} {t} k) =
+      by-view (at-byte y {s} {t} k) =
           let a = (eqb x (byte "<") && (eqb y (byte "!") && true)) && isLetter (first s) in
           let b = (eqb x (byte "<") && (eqb y (byte "!") && true)) && isLetter (first t) in
           let e : a ≡ b = ap (λ (z : ℕ). (eqb x (byte "<") && (eqb y (byte "!") && true)) && isLetter z) (first-same k) in
           choose-lefts a b e
-          (λ h. through-lefts alike (Declaration (byte "A") refl) (class-pair isLetter refl (and_right (eqb x (byte "<") && (eqb y (byte "!") && true)) (isLetter (first s)) h) k))
+          (λ h. through-lefts alike (Declaration (byte "A") refl) (class-pair isLetter refl (and-right (eqb x (byte "<") && (eqb y (byte "!") && true)) (isLetter (first s)) h) k))
           (λ h. nothings)
 
   tag-lefts : (ρ : Rules) {s t : List ℕ} → Pair w₁ w₂ q s t → Lefts w₁ w₂ q (htmlTag ρ (x ∷ s)) (htmlTag ρ (x ∷ t))
@@ -97,12 +97,12 @@ data Prefixes (w₁ w₂ q : List ℕ) : Prefix → Prefix → Type 0 where
 prefixes : {w₁ w₂ q : List ℕ} (k : ℕ) (p : List ℕ) → angleless p ≡ true → {s t : List ℕ} → Pair w₁ w₂ q s t → Prefixes w₁ w₂ q (prefix k p s) (prefix k p t)
 unfolding prefix all
 prefixes k [] e r = wholes r
-prefixes {w₁} {w₂} {q} k (c ∷ p) e r = by-view (λ k' s t i. prefixes k' p (and_right (not (eqb (byte "<") c)) (angleless p) e) i) (view r)
+prefixes {w₁} {w₂} {q} k (c ∷ p) e r = by-view (λ k' s t i. prefixes k' p (and-right (not (eqb (byte "<") c)) (angleless p) e) i) (view r)
   where
     by-view : ((k : ℕ) (s t : List ℕ) → Pair w₁ w₂ q s t → Prefixes w₁ w₂ q (prefix k p s) (prefix k p t)) → {s t : List ℕ} → View w₁ w₂ q s t → Prefixes w₁ w₂ q (prefix k (c ∷ p) s) (prefix k (c ∷ p) t)
     by-view ih at-end = both-letters k
-    by-view ih at-opening = rw (not-true (eqb (byte "<") c) (and_left (not (eqb (byte "<") c)) (angleless p) e)) (both-letters k)
-    by-view ih (at_byte y {s} {t} i) = split (eqb y c) (λ h. rw h (ih (suc k) s t i)) (λ h. rw h (both-letters k))
+    by-view ih at-opening = rw (not-true (eqb (byte "<") c) (and-left (not (eqb (byte "<") c)) (angleless p) e)) (both-letters k)
+    by-view ih (at-byte y {s} {t} i) = split (eqb y c) (λ h. rw h (ih (suc k) s t i)) (λ h. rw h (both-letters k))
 
 -- what reading gives of the one and of the other
 pub data Reads (w₁ w₂ q : List ℕ) : Read → Read → Type 0 where
@@ -137,7 +137,7 @@ module _ {w₁ w₂ q : List ℕ} (alike : Alike w₁ w₂ q) (ρ : Rules) (x : 
       split (eqb x (byte "<") && begins (bytes "![") s)
       (λ h.
       let k : (eqb x (byte "<") && begins (bytes "![") t) ≡ true = sym (ap (λ (b : Bool). eqb x (byte "<") && b) e) ∙ h in
-      rw (h, k) (cdata-reads (prefixes 0 cdataPrefix prefix-angleless (drop-pair (bytes "![") refl (and_right (eqb x (byte "<")) (begins (bytes "![") s) h) r))))
+      rw (h, k) (cdata-reads (prefixes 0 cdataPrefix prefix-angleless (drop-pair (bytes "![") refl (and-right (eqb x (byte "<")) (begins (bytes "![") s) h) r))))
       (λ h.
       let k : (eqb x (byte "<") && begins (bytes "![") t) ≡ false = sym (ap (λ (b : Bool). eqb x (byte "<") && b) e) ∙ h in
       rw (h, k) (carried 0 (tag-lefts alike x ρ r)))

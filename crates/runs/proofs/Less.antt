@@ -9,7 +9,7 @@ use Rattle.lexical.specs.Text.{byte, bytes, first}
 use Rattle.lexical.specs.Byte.{isLetter, isWhitespace, isTagNameByte, isAttributeNameByte, isQuote, isValueExcluded}
 use Rattle.lexical.specs.Name.{cdataPrefix}
 use Rattle.lexical.proofs.Cases.{split}
-use Rattle.rules.specs.Search.{choose, begins, past, Left, left, nothing, or_else, exactly, throughFirst}
+use Rattle.rules.specs.Search.{choose, begins, past, Left, left, nothing, orElse, exactly, throughFirst}
 use Rattle.rules.specs.Tag.{Grammar, inlineTags, tagEnd, pastQuote, specification, startsName, pastUnquoted, value, values, attribute, attributes, openTag, closingTag}
 use Rattle.rules.specs.Inline.{comment, instruction, declaration, htmlTag, prefix, Read, takes, lacks, carrying, cdataBody, rawHtml, keeping, readInline}
 use Rattle.rules.specs.declared.Rules.{Rules}
@@ -23,16 +23,16 @@ choose-most : (b : Bool) (s : List ℕ) (x y : Left) → AtMost s x → AtMost s
 choose-most true s x y h k = h
 choose-most false s x y h k = k
 
-or_most : (s : List ℕ) (x y : Left) → AtMost s x → AtMost s y → AtMost s (or_else x (λ _. y))
-or_most s (left t) y h k = h
-or_most s nothing y h k = k
+or-most : (s : List ℕ) (x y : Left) → AtMost s x → AtMost s y → AtMost s (orElse x (λ _. y))
+or-most s (left t) y h k = h
+or-most s nothing y h k = k
 
 exactly-most : (p s : List ℕ) → AtMost s (exactly p s)
 exactly-most p s = choose-most (begins p s) s (left (drop (length p) s)) nothing (omega (arith, length-drop (length p) s)) tt
 
 end-most : (s : List ℕ) → AtMost s (tagEnd s)
 unfolding tagEnd
-end-most s = or_most s (exactly (bytes ">") s) (exactly (bytes "/>") s) (exactly-most (bytes ">") s) (exactly-most (bytes "/>") s)
+end-most s = or-most s (exactly (bytes ">") s) (exactly (bytes "/>") s) (exactly-most (bytes ">") s) (exactly-most (bytes "/>") s)
 
 module _ (g : Grammar) where
   module _ (more : List ℕ → Left) (most : (s : List ℕ) → AtMost s (more s)) where
@@ -110,9 +110,9 @@ declaration-most x s =
 tag-most : (ρ : Rules) (x : ℕ) (s : List ℕ) → AtMost s (htmlTag ρ (x ∷ s))
 unfolding htmlTag
 tag-most ρ x s =
-    or_most s (openTag (inlineTags ρ) (x ∷ s)) _ (open-most (inlineTags ρ) x s)
-    (or_most s (closingTag (x ∷ s)) _ (close-most x s)
-    (or_most s (comment (x ∷ s)) _ (comment-most x s) (or_most s (instruction (x ∷ s)) (declaration (x ∷ s)) (instruction-most x s) (declaration-most x s))))
+    or-most s (openTag (inlineTags ρ) (x ∷ s)) _ (open-most (inlineTags ρ) x s)
+    (or-most s (closingTag (x ∷ s)) _ (close-most x s)
+    (or-most s (comment (x ∷ s)) _ (comment-most x s) (or-most s (instruction (x ∷ s)) (declaration (x ∷ s)) (instruction-most x s) (declaration-most x s))))
 
 -- ---- the whole
 abbrev pub ReadMost : List ℕ → Read → Type 0

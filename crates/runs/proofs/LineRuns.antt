@@ -10,11 +10,11 @@ use lib.Dec.{eqb, leb, ltb}
 use lib.ListN.{length, length-append}
 use borrow.Author.Tests.{le-ltb, leb-true, ltb-true, ltb-false}
 use Rattle.lexical.specs.Line.{isBlank}
-use Rattle.lexical.proofs.Cases.{split, clash, and_left, and_right}
+use Rattle.lexical.proofs.Cases.{split, clash, and-left, and-right}
 use Rattle.rules.specs.Search.{choose}
 use Rattle.rules.specs.Inline.{Read, takes, lacks, readInline}
 use Rattle.rules.specs.Lines.{Line}
-use Rattle.rules.specs.Block.{Extent, kind_of, extentOf, stopAfter}
+use Rattle.rules.specs.Block.{Extent, kindOf, extentOf, stopAfter}
 use Rattle.rules.specs.Withhold.{inline, Piece, piece, Mark, blockFirst, blockMore, blank, paragraphFirst, paragraphMore, marks, goesOn, byRead, inlinePieces, linePieces}
 use Rattle.rules.specs.Private.{any, encloses}
 use Rattle.rules.specs.declared.Rules.{Rules}
@@ -23,33 +23,33 @@ use Rattle.runs.proofs.Paragraph.{pieces-prior}
 use Rattle.rules.proofs.LineLaws.{sizes, sizes-append}
 use Rattle.runs.proofs.Behind.{stop-from}
 use Rattle.runs.proofs.PrivateLines.{Privates, firstLead}
-use Rattle.runs.proofs.Covered.{same_number, extent-some, extent-over, extent-within, empty, stop-through, stop-bound, stop-within, covered-marks, covered-pieces}
+use Rattle.runs.proofs.Covered.{same-number, extent-some, extent-over, extent-within, empty, stop-through, stop-bound, stop-within, covered-marks, covered-pieces}
 
 -- ---- which pieces enclose
-any_append : (f : Piece → Bool) (a b : List Piece) → any f (a ++ b) ≡ (any f a || any f b)
+any-append : (f : Piece → Bool) (a b : List Piece) → any f (a ++ b) ≡ (any f a || any f b)
 unfolding any
-any_append f [] b = refl
-any_append f (x ∷ a) b = rw (any_append f a b) (or-or (f x) (any f a) (any f b))
+any-append f [] b = refl
+any-append f (x ∷ a) b = rw (any-append f a b) (or-or (f x) (any f a) (any f b))
   where
     or-or : (x y z : Bool) → (x || (y || z)) ≡ ((x || y) || z)
     or-or true y z = refl
     or-or false y z = refl
 
-and_none : (a b : Bool) → (a && (false && b)) ≡ false
-and_none true b = refl
-and_none false b = refl
+and-none : (a b : Bool) → (a && (false && b)) ≡ false
+and-none true b = refl
+and-none false b = refl
 
 -- no inline piece does
 inline-none : (ρ : Rules) (i j n k : ℕ) (s : List ℕ) → any (encloses i j) (inlinePieces ρ n k s) ≡ false
 unfolding any inlinePieces
 inline-none ρ i j zero k s = refl
 inline-none ρ i j (suc n) k [] = refl
-inline-none ρ i j (suc n) k (x ∷ s) = by_read (λ m t. inline-none ρ i j n m t) (readInline ρ 0 (x ∷ s))
+inline-none ρ i j (suc n) k (x ∷ s) = by-read (λ m t. inline-none ρ i j n m t) (readInline ρ 0 (x ∷ s))
   where
-    by_read : ((m : ℕ) (t : List ℕ) → any (encloses i j) (inlinePieces ρ n m t) ≡ false) → (r : Read)
+    by-read : ((m : ℕ) (t : List ℕ) → any (encloses i j) (inlinePieces ρ n m t) ≡ false) → (r : Read)
         → any (encloses i j) (byRead r (λ _. inlinePieces ρ n (suc k) s) (λ t. piece k (k + (length (x ∷ s) - length t)) inline ∷ inlinePieces ρ n (k + (length (x ∷ s) - length t)) t)) ≡ false
-    by_read ih (takes t c) = ih (k + (length (x ∷ s) - length t)) t
-    by_read ih (lacks c) = ih (suc k) s
+    by-read ih (takes t c) = ih (k + (length (x ∷ s) - length t)) t
+    by-read ih (lacks c) = ih (suc k) s
 
 -- and none that begins at i or behind it
 none-behind : (ρ : Rules) (i j : ℕ) (ms : List Mark) (ls : List Line) (k : ℕ) → i ≤ k + firstLead ls → any (encloses i j) (linePieces ρ k ms ls) ≡ false
@@ -57,13 +57,13 @@ unfolding any linePieces
 none-behind ρ i j [] ls k h = refl
 none-behind ρ i j (m ∷ ms) [] k h = refl
 none-behind ρ i j (blockFirst c e ∷ ms) (l ∷ ls) k h =
-    rw (le-ltb (k + length l.lead) i h, and_none (leb c 5 && e.closed) (leb j (stopAfter (k + length l.lead) e.lines (l ∷ ls)))) (none-behind ρ i j ms ls (k + length l.lead + length l.content) (omega arith))
+    rw (le-ltb (k + length l.lead) i h, and-none (leb c 5 && e.closed) (leb j (stopAfter (k + length l.lead) e.lines (l ∷ ls)))) (none-behind ρ i j ms ls (k + length l.lead + length l.content) (omega arith))
 none-behind ρ i j (blockMore ∷ ms) (l ∷ ls) k h = none-behind ρ i j ms ls (k + length l.lead + length l.content) (omega arith)
 none-behind ρ i j (blank ∷ ms) (l ∷ ls) k h = none-behind ρ i j ms ls (k + length l.lead + length l.content) (omega arith)
 none-behind ρ i j (paragraphFirst ∷ ms) (l ∷ ls) k h =
     let t = l.content ++ goesOn ms ls in
     let n = k + length l.lead + length l.content in
-    any_append (encloses i j) (inlinePieces ρ (length t) (k + length l.lead) t) (linePieces ρ n ms ls)
+    any-append (encloses i j) (inlinePieces ρ (length t) (k + length l.lead) t) (linePieces ρ n ms ls)
     ∙ ap (λ (b : Bool). b || any (encloses i j) (linePieces ρ n ms ls)) (inline-none ρ i j (length t) (k + length l.lead) t)
     ∙ none-behind ρ i j ms ls n (omega arith)
 none-behind ρ i j (paragraphMore ∷ ms) (l ∷ ls) k h = none-behind ρ i j ms ls (k + length l.lead + length l.content) (omega arith)
@@ -89,7 +89,7 @@ module _ (ρ : Rules) (a b back : List Line) (r : Privates a b) (p j₁ j₂ at 
 
   pub record Found (e : List Line) (i : ℕ) (ms₁ ms₂ : List Mark) : Type 0 where
     pub same-marks : ms₁ ≡ ms₂
-    pub same_text : goesOn ms₁ (one e) ≡ goesOn ms₁ (two e)
+    pub same-text : goesOn ms₁ (one e) ≡ goesOn ms₁ (two e)
     pub text-size : length (goesOn ms₁ (one e)) ≤ sizes e
     pub same-pieces : Corresponding p j₁ j₂ (linePieces ρ i ms₁ (one e)) (linePieces ρ i ms₁ (two e))
 
@@ -106,13 +106,13 @@ module _ (ρ : Rules) (a b back : List Line) (r : Privates a b) (p j₁ j₂ at 
     unfolding linePieces goesOn
     more-claim k =
         let w = ih k in
-        record { same-marks = ap (λ (ms : List Mark). blockMore ∷ ms) w.same-marks; same_text = refl; text-size = omega arith; same-pieces = w.same-pieces }
+        record { same-marks = ap (λ (ms : List Mark). blockMore ∷ ms) w.same-marks; same-text = refl; text-size = omega arith; same-pieces = w.same-pieces }
 
     blank-claim : Claim (l ∷ e) i (blank ∷ x) (blank ∷ y)
     unfolding linePieces goesOn
     blank-claim k =
         let w = ih k in
-        record { same-marks = ap (λ (ms : List Mark). blank ∷ ms) w.same-marks; same_text = refl; text-size = omega arith; same-pieces = w.same-pieces }
+        record { same-marks = ap (λ (ms : List Mark). blank ∷ ms) w.same-marks; same-text = refl; text-size = omega arith; same-pieces = w.same-pieces }
 
     further-claim : Claim (l ∷ e) i (paragraphMore ∷ x) (paragraphMore ∷ y)
     unfolding linePieces goesOn
@@ -120,7 +120,7 @@ module _ (ρ : Rules) (a b back : List Line) (r : Privates a b) (p j₁ j₂ at 
         let w = ih k in
         record {
           same-marks = ap (λ (ms : List Mark). paragraphMore ∷ ms) w.same-marks;
-          same_text = ap (λ (t : List ℕ). l.lead ++ (l.content ++ t)) w.same_text;
+          same-text = ap (λ (t : List ℕ). l.lead ++ (l.content ++ t)) w.same-text;
           text-size = omega (arith, length-append l.lead (l.content ++ goesOn x (one e)), length-append l.content (goesOn x (one e)), w.text-size);
           same-pieces = w.same-pieces;
         }
@@ -133,15 +133,15 @@ module _ (ρ : Rules) (a b back : List Line) (r : Privates a b) (p j₁ j₂ at 
         let m = i + length l.lead in
         let f = encloses (suc p) (suc j₁) in
         let skip : any f (inlinePieces ρ (length t) m t ++ linePieces ρ n x (one e)) ≡ any f (linePieces ρ n x (one e)) =
-        any_append f (inlinePieces ρ (length t) m t) (linePieces ρ n x (one e)) ∙ ap (λ (c : Bool). c || any f (linePieces ρ n x (one e))) (inline-none ρ (suc p) (suc j₁) (length t) m t) in
+        any-append f (inlinePieces ρ (length t) m t) (linePieces ρ n x (one e)) ∙ ap (λ (c : Bool). c || any f (linePieces ρ n x (one e))) (inline-none ρ (suc p) (suc j₁) (length t) m t) in
         let w = ih (sym skip ∙ k) in
         let prior = pieces-prior ρ p j₁ j₂ (length t) t m (omega (arith, length-append l.content (goesOn x (one e)), w.text-size)) in
-        let same : t ≡ l.content ++ goesOn x (two e) = ap (λ (s : List ℕ). l.content ++ s) w.same_text in
+        let same : t ≡ l.content ++ goesOn x (two e) = ap (λ (s : List ℕ). l.content ++ s) w.same-text in
         record {
           same-marks = ap (λ (ms : List Mark). paragraphFirst ∷ ms) w.same-marks;
-          same_text = refl;
+          same-text = refl;
           text-size = omega arith;
-          same-pieces = rw (sym w.same_text) (both prior w.same-pieces);
+          same-pieces = rw (sym w.same-text) (both prior w.same-pieces);
         }
 
   -- ---- a line that begins a block
@@ -170,7 +170,7 @@ module _ (ρ : Rules) (a b back : List Line) (r : Privates a b) (p j₁ j₂ at 
     block-found same m s c =
         record {
           same-marks = ap (λ (ms : List Mark). blockFirst k x₁ ∷ ms) m ∙ ap (λ (x : Extent). blockFirst k x ∷ marks ρ (x.lines - 1) false (two e)) same;
-          same_text = refl;
+          same-text = refl;
           text-size = omega arith;
           same-pieces = next (early begin (omega arith)) s c;
         }
@@ -178,7 +178,7 @@ module _ (ρ : Rules) (a b back : List Line) (r : Privates a b) (p j₁ j₂ at 
     -- it encloses the private lines
     here : (leb k 5 && x₁.closed) ≡ true → suc j₁ ≤ stopAfter begin x₁.lines (l ∷ one e) → Found (l ∷ e) i (blockFirst k x₁ ∷ ms₁) (blockFirst k x₂ ∷ ms₂)
     here low far =
-        let low' : k ≤ 5 = leb-true k 5 (and_left (leb k 5) x₁.closed low) in
+        let low' : k ≤ 5 = leb-true k 5 (and-left (leb k 5) x₁.closed low) in
         let same : x₁ ≡ x₂ = extent-over ρ k low' back l e a b r in
         let m = x₁.lines - 1 in
         let some : x₁.lines ≡ suc m = extent-some ρ k l (one e) in
@@ -186,7 +186,7 @@ module _ (ρ : Rules) (a b back : List Line) (r : Privates a b) (p j₁ j₂ at 
         let size-b = sizes-append e b in
         let length-a = length-append e a in
         let length-b = length-append e b in
-        let number = same_number r in
+        let number = same-number r in
         let join-a : one e ≡ (e ++ a) ++ back = sym (append_assoc e a back) in
         let join-b : two e ≡ (e ++ b) ++ back = sym (append_assoc e b back) in
         let first-is : stopAfter begin x₁.lines (l ∷ one e) ≡ stopAfter begin (suc m) (l ∷ ((e ++ a) ++ back)) =
@@ -231,8 +231,8 @@ module _ (ρ : Rules) (a b back : List Line) (r : Privates a b) (p j₁ j₂ at 
         let stop = stopAfter begin x₁.lines (l ∷ one e) in
         split ((leb k 5 && x₁.closed) && (ltb begin (suc p) && leb (suc j₁) stop))
         (λ t.
-        let u = and_right (leb k 5 && x₁.closed) (ltb begin (suc p) && leb (suc j₁) stop) t in
-        here (and_left (leb k 5 && x₁.closed) (ltb begin (suc p) && leb (suc j₁) stop) t) (leb-true (suc j₁) stop (and_right (ltb begin (suc p)) (leb (suc j₁) stop) u)))
+        let u = and-right (leb k 5 && x₁.closed) (ltb begin (suc p) && leb (suc j₁) stop) t in
+        here (and-left (leb k 5 && x₁.closed) (ltb begin (suc p) && leb (suc j₁) stop) t) (leb-true (suc j₁) stop (and-right (ltb begin (suc p)) (leb (suc j₁) stop) u)))
         (λ t. later (rw t at enc) ih)
 
   pub found : (e : List Line) (n : ℕ) (par : Bool) (i : ℕ) → i + sizes e ≡ at → Claim e i (marks ρ n par (one e)) (marks ρ n par (two e))
@@ -241,7 +241,7 @@ module _ (ρ : Rules) (a b back : List Line) (r : Privates a b) (p j₁ j₂ at 
   found (l ∷ e) (suc n) par i h = more-claim l e i _ _ (found e n false (i + length l.lead + length l.content) (omega arith)) h
   found (l ∷ e) zero par i h =
       let k = i + length l.lead + length l.content in
-      choose-claim (eqb (kind_of ρ l) 0) (l ∷ e) i _ _ _ _
+      choose-claim (eqb (kindOf ρ l) 0) (l ∷ e) i _ _ _ _
       (choose-claim (isBlank l.content) (l ∷ e) i _ _ _ _ (blank-claim l e i _ _ (found e zero false k (omega arith)) h)
       (choose-claim par (l ∷ e) i _ _ _ _ (further-claim l e i _ _ (found e zero true k (omega arith)) h) (paragraph-claim l e i _ _ (found e zero true k (omega arith)) h)))
-      (block-claim l e i (kind_of ρ l) h (found e ((extentOf ρ (kind_of ρ l) l (one e)).lines - 1) false k (omega arith)))
+      (block-claim l e i (kindOf ρ l) h (found e ((extentOf ρ (kindOf ρ l) l (one e)).lines - 1) false k (omega arith)))

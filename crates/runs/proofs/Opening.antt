@@ -11,7 +11,7 @@ use Rattle.lexical.proofs.Cases.{excluded}
 use Rattle.rules.specs.Search.{choose, somewhere}
 use Rattle.rules.specs.Tag.{openTag, closingTag}
 use Rattle.rules.specs.Inline.{instruction, declaration, htmlTag, prefix, takes, rawHtml, readInline}
-use Rattle.rules.specs.Block.{kind_at, startsRaw, isRawEnd}
+use Rattle.rules.specs.Block.{kindAt, startsRaw, isRawEnd}
 use Rattle.rules.specs.Private.{isPrivate, Form, closer, comment as Comment, instruction as Instruction, declaration as Declaration, cdata as Cdata}
 use Rattle.rules.specs.declared.Rules.{Rules}
 use Rattle.rules.proofs.Comment.{comment-is}
@@ -42,8 +42,8 @@ kindOfForm Instruction = 3
 kindOfForm (Declaration l h) = 4
 kindOfForm Cdata = 5
 
-pub kind-opens : (ρ : Rules) (flag : ℕ) (f : Form) (b q : List ℕ) → kind_at ρ flag (byte "<" ∷ inside f b q) ≡ kindOfForm f
-unfolding kind_at startsRaw isRawName isMember sameBytes rawNames run
+pub kind-opens : (ρ : Rules) (flag : ℕ) (f : Form) (b q : List ℕ) → kindAt ρ flag (byte "<" ∷ inside f b q) ≡ kindOfForm f
+unfolding kindAt startsRaw isRawName isMember sameBytes rawNames run
 kind-opens ρ flag Comment b q = refl
 kind-opens ρ flag Instruction b q = refl
 kind-opens ρ flag (Declaration l h) b q = rw (excluded isLetter (byte "-") l refl h, h)

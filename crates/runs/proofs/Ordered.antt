@@ -14,71 +14,71 @@ use borrow.Author.Tests.{le-leb, lt-leb, lt-ltb, le-ltb}
 use Rattle.lexical.specs.Text.{run}
 use Rattle.lexical.specs.Name.{isRawName}
 use Rattle.lexical.specs.Line.{isBlank}
-use Rattle.lexical.proofs.Cases.{clash, and_no}
+use Rattle.lexical.proofs.Cases.{clash, and-no}
 use Rattle.rules.specs.Search.{choose}
 use Rattle.rules.specs.Inline.{Read, takes, lacks, readInline}
 use Rattle.rules.specs.Tag.{openTag, closingTag}
-use Rattle.rules.specs.Lines.{Line, line, lines_of}
-use Rattle.rules.specs.Block.{kind_at, kind_of, startsRaw, startsBasic, startsComplete, extentOf, stopAfter}
+use Rattle.rules.specs.Lines.{Line, line, linesOf}
+use Rattle.rules.specs.Block.{kindAt, kindOf, startsRaw, startsBasic, startsComplete, extentOf, stopAfter}
 use Rattle.rules.specs.Withhold.{Mark, blockFirst, marks, goesOn, Piece, piece, inline, byRead, inlinePieces, linePieces, pieces, isWithheld, outside}
 use Rattle.rules.specs.declared.Rules.{Rules}
 use Rattle.runs.proofs.Less.{ReadMost, read-most}
-use Rattle.rules.proofs.LineLaws.{sizes, lines-size, stopFrom, stop-from, stop_is}
+use Rattle.rules.proofs.LineLaws.{sizes, lines-size, stopFrom, stop-from, stop-is}
 use Rattle.runs.proofs.Covered.{extent-some}
 
 -- pieces that stand in order between two indices, each with a byte, none over another
 pub data Ordered : ℕ → ℕ → List Piece → Type 0 where
   none : {lo hi : ℕ} → lo ≤ hi → Ordered lo hi []
-  one_more : {lo hi : ℕ} {p : Piece} {ps : List Piece} → lo ≤ p.start → p.start < p.stop → Ordered p.stop hi ps → Ordered lo hi (p ∷ ps)
+  one-more : {lo hi : ℕ} {p : Piece} {ps : List Piece} → lo ≤ p.start → p.start < p.stop → Ordered p.stop hi ps → Ordered lo hi (p ∷ ps)
 
 pub bounds : {lo hi : ℕ} {ps : List Piece} → Ordered lo hi ps → lo ≤ hi
 bounds (none h) = h
-bounds (one_more a b o) = let h = bounds o in omega arith
+bounds (one-more a b o) = let h = bounds o in omega arith
 
 module _ {lo hi : ℕ} {p : Piece} {ps : List Piece} where
   pub first-from : Ordered lo hi (p ∷ ps) → lo ≤ p.start
-  first-from (one_more a b o) = a
+  first-from (one-more a b o) = a
 
-  pub first_some : Ordered lo hi (p ∷ ps) → p.start < p.stop
-  first_some (one_more a b o) = b
+  pub first-some : Ordered lo hi (p ∷ ps) → p.start < p.stop
+  first-some (one-more a b o) = b
 
   pub others : Ordered lo hi (p ∷ ps) → Ordered p.stop hi ps
-  others (one_more a b o) = o
+  others (one-more a b o) = o
 
-  pub first_to : Ordered lo hi (p ∷ ps) → p.stop ≤ hi
-  first_to o = bounds (others o)
+  pub first-to : Ordered lo hi (p ∷ ps) → p.stop ≤ hi
+  first-to o = bounds (others o)
 
 -- between wider bounds
 pub widen : {lo hi low high : ℕ} {ps : List Piece} → low ≤ lo → hi ≤ high → Ordered lo hi ps → Ordered low high ps
 widen {low = low} {high} a b (none h) = let w : low ≤ high = omega arith in none w
-widen {low = low} a b (one_more {p = p} c d o) = let w : low ≤ p.start = omega arith in one_more w d (widen (omega arith) b o)
+widen {low = low} a b (one-more {p = p} c d o) = let w : low ≤ p.start = omega arith in one-more w d (widen (omega arith) b o)
 
 pub appended : {lo mid hi : ℕ} {ps qs : List Piece} → Ordered lo mid ps → Ordered mid hi qs → Ordered lo hi (ps ++ qs)
 appended (none h) q = widen h (omega arith) q
-appended (one_more a b o) q = one_more a b (appended o q)
+appended (one-more a b o) q = one-more a b (appended o q)
 
 -- ---- the pieces of a paragraph
 inline-ordered : (ρ : Rules) (n i : ℕ) (s : List ℕ) → Ordered i (i + length s) (inlinePieces ρ n i s)
 unfolding inlinePieces
 inline-ordered ρ zero i s = let h : i ≤ i + length s = omega arith in none h
 inline-ordered ρ (suc n) i [] = let h : i ≤ i + 0 = omega arith in none h
-inline-ordered ρ (suc n) i (x ∷ s) = by_read (λ k t. inline-ordered ρ n k t) (readInline ρ 0 (x ∷ s)) (read-most ρ x s)
+inline-ordered ρ (suc n) i (x ∷ s) = by-read (λ k t. inline-ordered ρ n k t) (readInline ρ 0 (x ∷ s)) (read-most ρ x s)
   where
-    by_read : ((k : ℕ) (t : List ℕ) → Ordered k (k + length t) (inlinePieces ρ n k t)) → (r : Read) → ReadMost s r
+    by-read : ((k : ℕ) (t : List ℕ) → Ordered k (k + length t) (inlinePieces ρ n k t)) → (r : Read) → ReadMost s r
         → Ordered i (i + length (x ∷ s)) (byRead r (λ _. inlinePieces ρ n (suc i) s) (λ t. piece i (i + (length (x ∷ s) - length t)) inline ∷ inlinePieces ρ n (i + (length (x ∷ s) - length t)) t))
-    by_read ih (takes t k) h =
+    by-read ih (takes t k) h =
         let j = i + (length (x ∷ s) - length t) in
         let a : i ≤ i = omega arith in
         let b : i < j = omega arith in
         let o : Ordered j (i + length (x ∷ s)) (inlinePieces ρ n j t) = widen (omega arith) (omega arith) (ih j t) in
-        one_more a b o
-    by_read ih (lacks k) h = widen (omega arith) (omega arith) (ih (suc i) s)
+        one-more a b o
+    by-read ih (lacks k) h = widen (omega arith) (omega arith) (ih (suc i) s)
 
 -- ---- blocks
 -- a line that opens a block has a byte
-opens-some : (ρ : Rules) (f : ℕ) (e c : List ℕ) → eqb (kind_of ρ (line f e c)) 0 ≡ false → 0 < length c
-unfolding kind_of kind_at startsRaw startsBasic startsComplete run openTag closingTag
-opens-some ρ f e [] h = clash true refl (rw (and_no (ρ.f3 || not (isRawName []))) at h)
+opens-some : (ρ : Rules) (f : ℕ) (e c : List ℕ) → eqb (kindOf ρ (line f e c)) 0 ≡ false → 0 < length c
+unfolding kindOf kindAt startsRaw startsBasic startsComplete run openTag closingTag
+opens-some ρ f e [] h = clash true refl (rw (and-no (ρ.f3 || not (isRawName []))) at h)
 opens-some ρ f e (x ∷ c) h = omega arith
 
 -- ---- the pieces of all lines
@@ -101,12 +101,12 @@ module _ (ρ : Rules) where
       let end = begin + length l.content in
       let n = (extentOf ρ k l ls).lines - 1 in
       let stop = stopAfter begin (extentOf ρ k l ls).lines (l ∷ ls) in
-      let is : stop ≡ stopFrom end n ls = ap (λ (m : ℕ). stopAfter begin m (l ∷ ls)) (extent-some ρ k l ls) ∙ stop_is n begin l ls in
+      let is : stop ≡ stopFrom end n ls = ap (λ (m : ℕ). stopAfter begin m (l ∷ ls)) (extent-some ρ k l ls) ∙ stop-is n begin l ls in
       let far = stop-from end n ls in
       let a : i + 0 ≤ begin = omega arith in
       let b : begin < stop = omega arith in
       let rest : Ordered stop (i + sizes (l ∷ ls)) (linePieces ρ end (marks ρ n false ls) ls) = widen (omega arith) (omega arith) o in
-      one_more a b rest
+      one-more a b rest
 
   -- n further lines belong to a block, and all pieces stand behind them
   lines-ordered : (ls : List Line) (n : ℕ) (paragraph : Bool) (i : ℕ) → Claim (stopFrom i n ls) i (marks ρ n paragraph ls) ls
@@ -118,7 +118,7 @@ module _ (ρ : Rules) where
       let begin = i + length l.lead in
       let end = begin + length l.content in
       let text = goesOn (marks ρ zero true ls) ls in
-      choose-claim (eqb (kind_of ρ l) 0) i i _ _ (l ∷ ls)
+      choose-claim (eqb (kindOf ρ l) 0) i i _ _ (l ∷ ls)
       (λ _. choose-claim (isBlank l.content) i i _ _ (l ∷ ls)
       (λ _. widen (omega arith) (omega arith) (lines-ordered ls zero false end))
       (λ _.
@@ -126,12 +126,12 @@ module _ (ρ : Rules) where
       choose-claim paragraph i i _ _ (l ∷ ls)
       (λ _. widen (omega (arith, length-append l.lead (l.content ++ text))) (omega arith) (lines-ordered ls zero true end))
       (λ _. appended {mid = end + length text} (widen (omega arith) (omega arith) (inline-ordered ρ (length (l.content ++ text)) begin (l.content ++ text))) (widen (omega arith) (omega arith) (lines-ordered ls zero true end)))))
-      (λ h. block-first l ls i (kind_of ρ l) (opens-some ρ l.flag l.lead l.content h) (lines-ordered ls ((extentOf ρ (kind_of ρ l) l ls).lines - 1) false end))
+      (λ h. block-first l ls i (kindOf ρ l) (opens-some ρ l.flag l.lead l.content h) (lines-ordered ls ((extentOf ρ (kindOf ρ l) l ls).lines - 1) false end))
 
 -- ---- the whole bulletin
 pub pieces-ordered : (ρ : Rules) (text flags : List ℕ) → Ordered 0 (length text) (pieces ρ text flags)
 unfolding pieces
-pieces-ordered ρ text flags = widen (omega arith) (omega (arith, lines-size flags text)) (lines-ordered ρ (lines_of flags text) 0 false 0)
+pieces-ordered ρ text flags = widen (omega arith) (omega (arith, lines-size flags text)) (lines-ordered ρ (linesOf flags text) 0 false 0)
 
 -- ---- what is shown
 pub outside-none : (i : ℕ) (s : List ℕ) → outside i [] s ≡ s
@@ -143,7 +143,7 @@ outside-none i (x ∷ s) = ap (λ (t : List ℕ). x ∷ t) (outside-none (suc i)
 before-none : {lo hi : ℕ} {ps : List Piece} (i : ℕ) → Ordered lo hi ps → i < lo → isWithheld i ps ≡ false
 unfolding isWithheld
 before-none i (none h) l = refl
-before-none i (one_more {p = p} a b o) l = rw (lt-leb p.start i (omega arith)) (before-none i o (omega arith))
+before-none i (one-more {p = p} a b o) l = rw (lt-leb p.start i (omega arith)) (before-none i o (omega arith))
 
 -- they are shown
 shown-before : {lo hi : ℕ} {ps : List Piece} → Ordered lo hi ps → (n i : ℕ) (s : List ℕ) → i + n ≡ lo → outside i ps s ≡ take n s ++ outside lo ps (drop n s)
@@ -156,21 +156,21 @@ shown-before o (suc n) i (x ∷ s) e = rw (before-none i o (omega arith)) (ap (�
 behind-first : (p : Piece) (ps : List Piece) (i : ℕ) (s : List ℕ) → p.stop ≤ i → outside i (p ∷ ps) s ≡ outside i ps s
 unfolding outside isWithheld
 behind-first p ps i [] h = refl
-behind-first p ps i (x ∷ s) h = rw (le-ltb i p.stop h, and_no (leb p.start i), behind-first p ps (suc i) s (omega arith))
+behind-first p ps i (x ∷ s) h = rw (le-ltb i p.stop h, and-no (leb p.start i), behind-first p ps (suc i) s (omega arith))
 
-past_first : (p : Piece) (ps : List Piece) (n i : ℕ) (s : List ℕ) → p.start ≤ i → i + n ≡ p.stop → outside i (p ∷ ps) s ≡ outside p.stop ps (drop n s)
+past-first : (p : Piece) (ps : List Piece) (n i : ℕ) (s : List ℕ) → p.start ≤ i → i + n ≡ p.stop → outside i (p ∷ ps) s ≡ outside p.stop ps (drop n s)
 unfolding outside isWithheld
-past_first p ps zero i s h e = behind-first p ps i s (omega arith) ∙ ap (λ (k : ℕ). outside k ps s) (omega arith)
-past_first p ps (suc n) i [] h e = refl
-past_first p ps (suc n) i (x ∷ s) h e = rw (le-leb p.start i h, lt-ltb i p.stop (omega arith)) (past_first p ps n (suc i) s (omega arith) (omega arith))
+past-first p ps zero i s h e = behind-first p ps i s (omega arith) ∙ ap (λ (k : ℕ). outside k ps s) (omega arith)
+past-first p ps (suc n) i [] h e = refl
+past-first p ps (suc n) i (x ∷ s) h e = rw (le-leb p.start i h, lt-ltb i p.stop (omega arith)) (past-first p ps n (suc i) s (omega arith) (omega arith))
 
 pub outside-next : (text : List ℕ) (from hi : ℕ) (p : Piece) (ps : List Piece) → Ordered from hi (p ∷ ps) → hi ≤ length text
     → outside from (p ∷ ps) (drop from text) ≡ take (p.start - from) (drop from text) ++ outside p.stop ps (drop p.stop text)
-outside-next text from hi p ps (one_more a b o) h =
+outside-next text from hi p ps (one-more a b o) h =
     let same : p.start ≤ p.start = omega arith in
     let n = p.start - from in
     let m = p.stop - p.start in
     let reaches : from + (n + m) ≡ p.stop = omega arith in
     let there : drop m (drop n (drop from text)) ≡ drop p.stop text = drop-drop m n (drop from text) ∙ drop-drop (n + m) from text ∙ ap (λ (k : ℕ). drop k text) reaches in
-    shown-before (one_more same b o) n from (drop from text) (omega arith)
-    ∙ ap (λ (t : List ℕ). take n (drop from text) ++ t) (past_first p ps m p.start (drop n (drop from text)) same (omega arith) ∙ ap (outside p.stop ps) there)
+    shown-before (one-more same b o) n from (drop from text) (omega arith)
+    ∙ ap (λ (t : List ℕ). take n (drop from text) ++ t) (past-first p ps m p.start (drop n (drop from text)) same (omega arith) ∙ ap (outside p.stop ps) there)

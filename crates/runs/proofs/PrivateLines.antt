@@ -9,9 +9,9 @@ use lib.Dec.{eqb}
 use lib.ListN.{length, length-append}
 use Rattle.lexical.specs.Text.{byte, bytes}
 use Rattle.lexical.specs.Name.{all}
-use Rattle.lexical.proofs.Cases.{excluded, and_left, and_right}
+use Rattle.lexical.proofs.Cases.{excluded, and-left, and-right}
 use Rattle.rules.specs.Search.{choose}
-use Rattle.rules.specs.Lines.{Line, line, push, cutLines, flagged, lines_of}
+use Rattle.rules.specs.Lines.{Line, line, push, cutLines, flagged, linesOf}
 use Rattle.rules.specs.Private.{isPrivate, linesText, LinesSwap}
 use Rattle.rules.proofs.LineLaws.{no-flags, sizes, flagged-size}
 
@@ -87,20 +87,20 @@ abbrev lastLead : List ℕ → List (List ℕ) → List ℕ
 lastLead lead [] = lead
 lastLead lead (c ∷ cs) = lastLead (bytes "\n") cs
 
-one_line : (c lead u : List ℕ) → all isPrivate c ≡ true → cutLines false lead (c ++ (byte "\n" ∷ u)) ≡ line 0 lead c ∷ cutLines false (bytes "\n") u
+one-line : (c lead u : List ℕ) → all isPrivate c ≡ true → cutLines false lead (c ++ (byte "\n" ∷ u)) ≡ line 0 lead c ∷ cutLines false (bytes "\n") u
 unfolding cutLines all
-one_line [] lead u h = refl
-one_line (x ∷ xs) lead u h =
-    let p = and_left (isPrivate x) (all isPrivate xs) h in
-    rw (excluded isPrivate (byte "\n") x refl p, excluded isPrivate (byte "\r") x refl p, one_line xs lead u (and_right (isPrivate x) (all isPrivate xs) h))
+one-line [] lead u h = refl
+one-line (x ∷ xs) lead u h =
+    let p = and-left (isPrivate x) (all isPrivate xs) h in
+    rw (excluded isPrivate (byte "\n") x refl p, excluded isPrivate (byte "\r") x refl p, one-line xs lead u (and-right (isPrivate x) (all isPrivate xs) h))
 
 cut-privates : (cs : List (List ℕ)) (lead s : List ℕ) → all (all isPrivate) cs ≡ true → cutLines false lead (linesText cs ++ s) ≡ privates lead cs ++ cutLines false (lastLead lead cs) s
 unfolding all
 cut-privates [] lead s h = refl
 cut-privates (c ∷ cs) lead s h =
     rw (append_assoc c (byte "\n" ∷ linesText cs) s)
-    (one_line c lead (linesText cs ++ s) (and_left (all isPrivate c) (all (all isPrivate) cs) h)
-    ∙ ap (λ (ls : List Line). line 0 lead c ∷ ls) (cut-privates cs (bytes "\n") s (and_right (all isPrivate c) (all (all isPrivate) cs) h)))
+    (one-line c lead (linesText cs ++ s) (and-left (all isPrivate c) (all (all isPrivate) cs) h)
+    ∙ ap (λ (ls : List Line). line 0 lead c ∷ ls) (cut-privates cs (bytes "\n") s (and-right (all isPrivate c) (all (all isPrivate) cs) h)))
 
 last-same : (lead : List ℕ) (cs ds : List (List ℕ)) → length cs ≡ length ds → lastLead lead cs ≡ lastLead lead ds
 last-same lead [] [] e = refl
@@ -142,21 +142,21 @@ left-same (f ∷ fs) lead (c ∷ cs) (d ∷ ds) e = left-same fs (bytes "\n") cs
 
 -- lines of two bulletins, each private in both, with the same flag and the same ending before it
 pub data Privates : List Line → List Line → Type 0 where
-  no_more : Privates [] []
-  one_more : (flag : ℕ) (lead c₁ c₂ : List ℕ) {one two : List Line} → all isPrivate c₁ ≡ true → all isPrivate c₂ ≡ true → Privates one two
+  no-more : Privates [] []
+  one-more : (flag : ℕ) (lead c₁ c₂ : List ℕ) {one two : List Line} → all isPrivate c₁ ≡ true → all isPrivate c₂ ≡ true → Privates one two
       → Privates (line flag lead c₁ ∷ one) (line flag lead c₂ ∷ two)
 
 flagged-privates : (fs lead : List ℕ) (cs ds : List (List ℕ)) → length cs ≡ length ds → all (all isPrivate) cs ≡ true → all (all isPrivate) ds ≡ true
     → Privates (flagged fs (privates lead cs)) (flagged fs (privates lead ds))
 unfolding flagged all
-flagged-privates fs lead [] [] e h k = no_more
+flagged-privates fs lead [] [] e h k = no-more
 flagged-privates fs lead [] (d ∷ ds) e h k = absurd (omega arith)
 flagged-privates fs lead (c ∷ cs) [] e h k = absurd (omega arith)
 flagged-privates [] lead (c ∷ cs) (d ∷ ds) e h k =
     rw (sym (no-flags (privates (bytes "\n") cs)), sym (no-flags (privates (bytes "\n") ds)))
-    (one_more 0 lead c d (and_left (all isPrivate c) (all (all isPrivate) cs) h) (and_left (all isPrivate d) (all (all isPrivate) ds) k) (flagged-privates [] (bytes "\n") cs ds (omega arith) (and_right (all isPrivate c) (all (all isPrivate) cs) h) (and_right (all isPrivate d) (all (all isPrivate) ds) k)))
+    (one-more 0 lead c d (and-left (all isPrivate c) (all (all isPrivate) cs) h) (and-left (all isPrivate d) (all (all isPrivate) ds) k) (flagged-privates [] (bytes "\n") cs ds (omega arith) (and-right (all isPrivate c) (all (all isPrivate) cs) h) (and-right (all isPrivate d) (all (all isPrivate) ds) k)))
 flagged-privates (f ∷ fs) lead (c ∷ cs) (d ∷ ds) e h k =
-    one_more f lead c d (and_left (all isPrivate c) (all (all isPrivate) cs) h) (and_left (all isPrivate d) (all (all isPrivate) ds) k) (flagged-privates fs (bytes "\n") cs ds (omega arith) (and_right (all isPrivate c) (all (all isPrivate) cs) h) (and_right (all isPrivate d) (all (all isPrivate) ds) k))
+    one-more f lead c d (and-left (all isPrivate c) (all (all isPrivate) cs) h) (and-left (all isPrivate d) (all (all isPrivate) ds) k) (flagged-privates fs (bytes "\n") cs ds (omega arith) (and-right (all isPrivate c) (all (all isPrivate) cs) h) (and-right (all isPrivate d) (all (all isPrivate) ds) k))
 
 -- ---- the lines of two bulletins that differ in private lines, of which there are some
 abbrev pub firstLead : List Line → ℕ
@@ -178,8 +178,8 @@ pub record LineStretch (flags : List ℕ) {one two : List ℕ} (d : LinesSwap on
   pub led : suc (length d.before) ≤ sizes front + firstLead (stretch₁ ++ back)
   pub ends₁ : sizes front + sizes stretch₁ ≡ length d.before + length (ledText d.lines₁)
   pub ends₂ : sizes front + sizes stretch₂ ≡ length d.before + length (ledText d.lines₂)
-  pub one-is : lines_of flags one ≡ front ++ (stretch₁ ++ back)
-  pub two_is : lines_of flags two ≡ front ++ (stretch₂ ++ back)
+  pub one-is : linesOf flags one ≡ front ++ (stretch₁ ++ back)
+  pub two-is : linesOf flags two ≡ front ++ (stretch₂ ++ back)
 
 -- how many bytes the private lines have, by the ending that leads to the first
 stretch-size : (fs lead : List ℕ) (cs : List (List ℕ)) → 0 < length cs → suc (sizes (flagged fs (privates lead cs))) ≡ length lead + length (ledText cs)
@@ -191,7 +191,7 @@ stretch-lead fs lead [] back h = absurd (omega arith)
 stretch-lead fs lead (c ∷ cs) back h = flagged-lead fs (line 0 lead c) (privates (bytes "\n") cs) back
 
 pub line-stretch : (flags : List ℕ) {one two : List ℕ} (d : LinesSwap one two) → 0 < length d.lines₁ → LineStretch flags d
-unfolding lines_of
+unfolding linesOf
 line-stretch flags d some =
     let w = (anew d.before []).0 in
     let e = w.head ∷ w.earlier in
@@ -199,7 +199,7 @@ line-stretch flags d some =
     let lead = w.lead in
     let one = d.lines₁ in
     let two = d.lines₂ in
-    let cut_at : (cs : List (List ℕ)) → all (all isPrivate) cs ≡ true → flagged flags (cutLines false [] ((d.before ++ (byte "\n" ∷ [])) ++ (linesText cs ++ d.after))) ≡ flagged flags e ++ (flagged fs (privates lead cs) ++ flagged (flagsLeft fs (privates lead cs)) (cutLines false (lastLead lead cs) d.after)) =
+    let cut-at : (cs : List (List ℕ)) → all (all isPrivate) cs ≡ true → flagged flags (cutLines false [] ((d.before ++ (byte "\n" ∷ [])) ++ (linesText cs ++ d.after))) ≡ flagged flags e ++ (flagged fs (privates lead cs) ++ flagged (flagsLeft fs (privates lead cs)) (cutLines false (lastLead lead cs) d.after)) =
     λ cs h.
     ap (flagged flags) (w.is (linesText cs ++ d.after) ∙ ap (λ (ls : List Line). e ++ ls) (cut-privates cs lead d.after h))
     ∙ flagged-append flags e (privates lead cs ++ cutLines false (lastLead lead cs) d.after)
@@ -213,13 +213,13 @@ line-stretch flags d some =
       stretch₁ = flagged fs (privates lead one);
       stretch₂ = flagged fs (privates lead two);
       back = back;
-      both = flagged-privates fs lead one two d.same_number d.private₁ d.private₂;
+      both = flagged-privates fs lead one two d.same-number d.private₁ d.private₂;
       starts = omega arith;
       led = omega (arith, stretch-lead fs lead one back some);
       ends₁ = omega (arith, stretch-size fs lead one some);
-      ends₂ = omega (arith, stretch-size fs lead two (omega (arith, d.same_number)));
-      one-is = ap (λ (t : List ℕ). flagged flags (cutLines false [] t)) d.one-is ∙ cut_at one d.private₁;
-      two_is =
-          rw (left-same fs lead one two d.same_number, last-same lead one two d.same_number)
-          (ap (λ (t : List ℕ). flagged flags (cutLines false [] t)) d.two_is ∙ cut_at two d.private₂);
+      ends₂ = omega (arith, stretch-size fs lead two (omega (arith, d.same-number)));
+      one-is = ap (λ (t : List ℕ). flagged flags (cutLines false [] t)) d.one-is ∙ cut-at one d.private₁;
+      two-is =
+          rw (left-same fs lead one two d.same-number, last-same lead one two d.same-number)
+          (ap (λ (t : List ℕ). flagged flags (cutLines false [] t)) d.two-is ∙ cut-at two d.private₂);
     }

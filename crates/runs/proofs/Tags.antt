@@ -11,11 +11,11 @@ use lib.ListN.{length, drop, length-drop}
 use Rattle.lexical.specs.Text.{byte, bytes, first}
 use Rattle.lexical.specs.Byte.{isLetter, isWhitespace, isTagNameByte, isAttributeNameByte, isQuote, isValueExcluded}
 use Rattle.lexical.specs.Name.{all}
-use Rattle.lexical.proofs.Cases.{split, clash, and_left, and_right}
-use Rattle.rules.specs.Search.{choose, begins, past, Left, or_else, exactly}
+use Rattle.lexical.proofs.Cases.{split, clash, and-left, and-right}
+use Rattle.rules.specs.Search.{choose, begins, past, Left, orElse, exactly}
 use Rattle.rules.specs.Tag.{Grammar, tagEnd, pastQuote, specification, startsName, isValueByte, pastUnquoted, value, values, attribute, attributes, openTag, closingTag}
 use Rattle.rules.proofs.Past.{past-length}
-use Rattle.runs.proofs.Alike.{Alike, Pair, ahead, behind, Lefts, lefts, nothings, View, at-end, at-opening, at_byte, angleless, view, first-same, past-pair, begins-same, drop-pair}
+use Rattle.runs.proofs.Alike.{Alike, Pair, ahead, behind, Lefts, lefts, nothings, View, at-end, at-opening, at-byte, angleless, view, first-same, past-pair, begins-same, drop-pair}
 
 -- fewer bytes behind one that is there
 pub drop-less : (c : ℕ) (p s : List ℕ) → begins (c ∷ p) s ≡ true → length (drop 1 s) < length s
@@ -33,7 +33,7 @@ class-pair {w₁} {w₂} {q} f e h r = by-view h (view r)
     by-view : {s t : List ℕ} → f (first s) ≡ true → View w₁ w₂ q s t → Pair w₁ w₂ q (drop 1 s) (drop 1 t)
     by-view h at-end = behind [] (omega arith)
     by-view h at-opening = clash (f (byte "<")) h e
-    by-view h (at_byte x k) = k
+    by-view h (at-byte x k) = k
 
 module _ {w₁ w₂ q : List ℕ} where
   pub choose-lefts : {x₁ y₁ x₂ y₂ : Left} (b c : Bool) → b ≡ c → (b ≡ true → Lefts w₁ w₂ q x₁ x₂) → (b ≡ false → Lefts w₁ w₂ q y₁ y₂)
@@ -43,7 +43,7 @@ module _ {w₁ w₂ q : List ℕ} where
   choose-lefts true false e f g = clash true refl e
   choose-lefts false true e f g = clash true refl (sym e)
 
-  pub or-lefts : {a b x y : Left} → Lefts w₁ w₂ q a b → Lefts w₁ w₂ q x y → Lefts w₁ w₂ q (or_else a (λ _. x)) (or_else b (λ _. y))
+  pub or-lefts : {a b x y : Left} → Lefts w₁ w₂ q a b → Lefts w₁ w₂ q x y → Lefts w₁ w₂ q (orElse a (λ _. x)) (orElse b (λ _. y))
   or-lefts (lefts r) h = lefts r
   or-lefts nothings h = h
 
@@ -104,7 +104,7 @@ module _ {w₁ w₂ q : List ℕ} (alike : Alike w₁ w₂ q) (g : Grammar) wher
             → Lefts w₁ w₂ q (value g more₁ v₁ s) (value g more₂ v₂ t)
         by-view r at-end a b f = nothings
         by-view r at-opening a b f = nothings
-        by-view r (at_byte x {s} {t} k) a b f =
+        by-view r (at-byte x {s} {t} k) a b f =
             choose-lefts (isQuote x) (isQuote x) refl (λ h. quote-lefts x h (omega arith) (omega arith) k)
             (λ h. choose-lefts (isValueExcluded x) (isValueExcluded x) refl (λ e. nothings)
             (λ e.
@@ -145,9 +145,9 @@ module _ {w₁ w₂ q : List ℕ} (alike : Alike w₁ w₂ q) (g : Grammar) wher
       ap (λ (y : ℕ). isWhitespace y && startsName g (first (past isWhitespace s))) (first-same r) ∙ ap (λ (y : ℕ). isWhitespace (first t) && startsName g y) (first-same k) in
       choose-lefts (isWhitespace (first s) && startsName g (first (past isWhitespace s))) (isWhitespace (first t) && startsName g (first (past isWhitespace t))) e
       (λ h.
-      let l₁ = space-less s (and_left (isWhitespace (first s)) (startsName g (first (past isWhitespace s))) h) in
-      let l₂ = space-less t (and_left (isWhitespace (first t)) (startsName g (first (past isWhitespace t))) (sym e ∙ h)) in
-      attribute-lefts n₁ n₂ (attributes g n₁) (attributes g n₂) (λ s' t' c d k'. attributes-lefts n₁ n₂ c d k') (omega (arith, length-drop 1 (past isWhitespace s))) (omega (arith, length-drop 1 (past isWhitespace t))) (class-pair (startsName g) refl (and_right (isWhitespace (first s)) (startsName g (first (past isWhitespace s))) h) k))
+      let l₁ = space-less s (and-left (isWhitespace (first s)) (startsName g (first (past isWhitespace s))) h) in
+      let l₂ = space-less t (and-left (isWhitespace (first t)) (startsName g (first (past isWhitespace t))) (sym e ∙ h)) in
+      attribute-lefts n₁ n₂ (attributes g n₁) (attributes g n₂) (λ s' t' c d k'. attributes-lefts n₁ n₂ c d k') (omega (arith, length-drop 1 (past isWhitespace s))) (omega (arith, length-drop 1 (past isWhitespace t))) (class-pair (startsName g) refl (and-right (isWhitespace (first s)) (startsName g (first (past isWhitespace s))) h) k))
       (λ h. end-lefts k)
 
 -- ---- tags from a byte before the opening on
@@ -159,7 +159,7 @@ open-lefts alike g x {s} {t} r =
     let e : a ≡ b = ap (λ (y : ℕ). (eqb x (byte "<") && true) && isLetter y) (first-same r) in
     choose-lefts a b e
     (λ h.
-    attributes-lefts alike g (length (x ∷ s)) (length (x ∷ t)) (omega (arith, past-length isTagNameByte (drop 1 s), length-drop 1 s)) (omega (arith, past-length isTagNameByte (drop 1 t), length-drop 1 t)) (past-pair isTagNameByte refl (class-pair isLetter refl (and_right (eqb x (byte "<") && true) (isLetter (first s)) h) r)))
+    attributes-lefts alike g (length (x ∷ s)) (length (x ∷ t)) (omega (arith, past-length isTagNameByte (drop 1 s), length-drop 1 s)) (omega (arith, past-length isTagNameByte (drop 1 t), length-drop 1 t)) (past-pair isTagNameByte refl (class-pair isLetter refl (and-right (eqb x (byte "<") && true) (isLetter (first s)) h) r)))
     (λ h. nothings)
 
 -- a test that ends in one that fails
@@ -174,10 +174,10 @@ close-lefts {w₁} {w₂} {q} x r = by-view (view r)
     by-view : {s t : List ℕ} → View w₁ w₂ q s t → Lefts w₁ w₂ q (closingTag (x ∷ s)) (closingTag (x ∷ t))
     by-view at-end = rw (and-fails (eqb x (byte "<"))) nothings
     by-view at-opening = rw (and-fails (eqb x (byte "<"))) nothings
-    by-view (at_byte y {s} {t} k) =
+    by-view (at-byte y {s} {t} k) =
         let a = (eqb x (byte "<") && (eqb y (byte "/") && true)) && isLetter (first s) in
         let b = (eqb x (byte "<") && (eqb y (byte "/") && true)) && isLetter (first t) in
         let e : a ≡ b = ap (λ (z : ℕ). (eqb x (byte "<") && (eqb y (byte "/") && true)) && isLetter z) (first-same k) in
         choose-lefts a b e
-        (λ h. exactly-lefts (bytes ">") refl (past-pair isWhitespace refl (past-pair isTagNameByte refl (class-pair isLetter refl (and_right (eqb x (byte "<") && (eqb y (byte "/") && true)) (isLetter (first s)) h) k))))
+        (λ h. exactly-lefts (bytes ">") refl (past-pair isWhitespace refl (past-pair isTagNameByte refl (class-pair isLetter refl (and-right (eqb x (byte "<") && (eqb y (byte "/") && true)) (isLetter (first s)) h) k))))
         (λ h. nothings)

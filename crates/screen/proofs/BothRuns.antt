@@ -14,16 +14,16 @@ use Rattle.rules.specs.Withhold.{shown, count, Shown, shows, refusedShown, withh
 use Rattle.rules.specs.Private.{Swap}
 use Rattle.rules.specs.declared.Rules.{Rules}
 use Rattle.rules.proofs.Refusals.{output-first}
-use Rattle.runs.proofs.TwoRuns.{two_runs}
+use Rattle.runs.proofs.TwoRuns.{two-runs}
 use Rattle.screen.specs.Both.{SameAnswers, Alike}
 
-abbrev length_of : Shown → ℕ
-length_of (shows n c) = n
-length_of (refusedShown r) = 0
+abbrev lengthOf : Shown → ℕ
+lengthOf (shows n c) = n
+lengthOf (refusedShown r) = 0
 
-abbrev count_of : Shown → ℕ
-count_of (shows n c) = c
-count_of (refusedShown r) = 0
+abbrev countOf : Shown → ℕ
+countOf (shows n c) = c
+countOf (refusedShown r) = 0
 
 abbrev isShown : Shown → Bool
 isShown (shows n c) = true
@@ -56,16 +56,16 @@ module _ (ρ : Rules) (text flags old : List ℕ) where
       split (eqb (bulletinRefusal text flags) 0) (λ h. eqb-true (bulletinRefusal text flags) 0 h)
       (λ h. sym (output-first (bulletinRefusal text flags) (length old) (shown ρ text flags) (λ s. clash (eqb (bulletinRefusal text flags) 0) (ap (λ t. eqb t 0) s) h)) ∙ z)
 
-  pub shown_by : (n c : ℕ) (new : List ℕ) → shows n c ≡ withhold ρ text flags (length old) → new ≡ written refusal (shown ρ text flags) old → Shown-by n c new
+  pub shown-by : (n c : ℕ) (new : List ℕ) → shows n c ≡ withhold ρ text flags (length old) → new ≡ written refusal (shown ρ text flags) old → Shown-by n c new
   unfolding written
-  shown_by n c new e w =
+  shown-by n c new e w =
       let z = not-refused n c e in
       let a = answer-is n c e in
-      let l = ap length_of a in
+      let l = ap lengthOf a in
       record {
         taken = reads z;
         length-is = l;
-        count-is = ap count_of a;
+        count-is = ap countOf a;
         bytes-are = ap (λ t. take t new) l ∙ ap (take (length (shown ρ text flags))) (w ∙ rw z refl) ∙ take-append_seam (shown ρ text flags) (drop (length (shown ρ text flags)) old);
       }
 
@@ -75,13 +75,13 @@ module _ (ρ : Rules) (flags one two old₁ old₂ new₁ new₂ : List ℕ)
     (w₂ : new₂ ≡ written (withholdRefusal ρ two flags (length old₂)) (shown ρ two flags) old₂) where
   same : (a b : Shown) → a ≡ withhold ρ one flags (length old₁) → b ≡ withhold ρ two flags (length old₂) → Swap ρ flags one two → SameAnswers a b new₁ new₂
   same (shows n₁ c₁) (shows n₂ c₂) e f swap =
-      let s = shown_by ρ one flags old₁ n₁ c₁ new₁ e w₁ in
-      let t = shown_by ρ two flags old₂ n₂ c₂ new₂ f w₂ in
-      let r = two_runs ρ flags one two s.taken t.taken swap in
+      let s = shown-by ρ one flags old₁ n₁ c₁ new₁ e w₁ in
+      let t = shown-by ρ two flags old₂ n₂ c₂ new₂ f w₂ in
+      let r = two-runs ρ flags one two s.taken t.taken swap in
       record {
-        same_bytes = s.bytes-are ∙ r.same_bytes ∙ sym t.bytes-are;
-        same_length = s.length-is ∙ r.same_length ∙ sym t.length-is;
-        same_count = s.count-is ∙ r.same_count ∙ sym t.count-is;
+        same-bytes = s.bytes-are ∙ r.same-bytes ∙ sym t.bytes-are;
+        same-length = s.length-is ∙ r.same-length ∙ sym t.length-is;
+        same-count = s.count-is ∙ r.same-count ∙ sym t.count-is;
       }
   same (shows n₁ c₁) (refusedShown q) e f swap = tt
   same (refusedShown q) b e f swap = tt

@@ -8,13 +8,13 @@ use native.Mathlib.Omega.{arith}
 use lib.ListN.{length, take, drop}
 use Rattle.lexical.specs.Buffer.{Written}
 use Rattle.lexical.proofs.Cases.{split}
-use Rattle.lexical.proofs.Stores.{nothing_written}
+use Rattle.lexical.proofs.Stores.{nothing-written}
 use Rattle.rules.specs.Withhold.{Piece, pieces, isWithheld, outside, shown, count, shows}
 use Rattle.rules.specs.declared.Rules.{Rules}
 use Rattle.runs.proofs.Ordered.{outside-none, outside-next}
 use Rattle.walk.specs.Remaining.{remaining, Leads}
 use Rattle.walk.specs.declared.pieces.Cursor.{Cursor}
-use Rattle.walk.proofs.Walk.{Counting, number_is, Walking, none-remain, size_is, Showing, shows-all}
+use Rattle.walk.proofs.Walk.{Counting, number-is, Walking, none-remain, size-is, Showing, shows-all}
 use Rattle.walk.proofs.Replacing.{between, Replacing, output, replaced-on, replaced-bound, copied-bound, replaced-shown, copied-shown}
 use Rattle.screen.specs.Shows.{Shows}
 use Rattle.screen.specs.declared.withhold.Withheld.TheVariants.{Shown as ShownBytes}
@@ -35,7 +35,7 @@ abbrev pub withholding : (text : List ℕ) → Replacing text
 withholding text =
     record {
       ahead = λ i ps. outside i ps (drop i text);
-      in_place = λ p. [];
+      in-place = λ p. [];
       by-piece = λ i p ps o. outside-next text i (length text) p ps o (omega arith);
       by-none = λ i. outside-none i (drop i text);
     }
@@ -60,7 +60,7 @@ module _ (ρ : Rules) (text flags : List ℕ) where
 
     pub length-is : length text ≤ from → size ≡ length (shown ρ text flags)
     unfolding shown
-    length-is l = size_is ρ text flags (output (withholding text)) c from size walking l
+    length-is l = size-is ρ text flags (output (withholding text)) c from size walking l
 
   -- ---- the bytes
   module _ (old : List ℕ) where
@@ -72,7 +72,7 @@ module _ (ρ : Rules) (text flags : List ℕ) where
           → Written out size (take (length out - size) (between text from start)) new → ShownUpTo new d stop (size + (start - from))
       unfolding shown
       shown-on start stop b d leads new w =
-          replaced-shown ρ text flags (withholding text) old room out c from size showing start stop b d leads new new (size + (start - from)) (omega arith) w nothing_written
+          replaced-shown ρ text flags (withholding text) old room out c from size showing start stop b d leads new new (size + (start - from)) (omega arith) w nothing-written
 
       pub shown-end : remaining ρ text flags c ≡ [] → (new : List ℕ) → Written out size (take (length out - size) (between text from (length text))) new
           → ShownUpTo new c (length text) (size + (length text - from))
@@ -83,5 +83,5 @@ module _ (ρ : Rules) (text flags : List ℕ) where
       unfolding shown count
       shows-withheld number counting l =
           let s = shows-all ρ text flags (output (withholding text)) old out c from size showing room l in
-          let n = number_is ρ text flags c number counting (none-remain ρ text flags (output (withholding text)) c from size showing.walking l) in
+          let n = number-is ρ text flags c number counting (none-remain ρ text flags (output (withholding text)) c from size showing.walking l) in
           record { answer = ap (λ t. shows t number) s.0 ∙ ap (shows (length (shown ρ text flags))) n; buffer = s.1 }

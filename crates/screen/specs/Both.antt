@@ -6,9 +6,9 @@ use Rattle.rules.specs.declared.Rules.{Rules}
 
 -- the same bytes, the same length and the same count are shown, in the fronts of two buffers
 pub record SameShown (length₁ count₁ length₂ count₂ : ℕ) (buffer₁ buffer₂ : List ℕ) : Type 0 where
-  pub same_bytes : take length₁ buffer₁ ≡ take length₂ buffer₂
-  pub same_length : length₁ ≡ length₂
-  pub same_count : count₁ ≡ count₂
+  pub same-bytes : take length₁ buffer₁ ≡ take length₂ buffer₂
+  pub same-length : length₁ ≡ length₂
+  pub same-count : count₁ ≡ count₂
 
 -- where neither run is refused
 abbrev pub SameAnswers : Shown → Shown → List ℕ → List ℕ → Type 0

@@ -11,10 +11,10 @@ use borrow.Author.Tests.{eqb-true}
 use Rattle.lexical.specs.Text.{byte, bytes, run}
 use Rattle.lexical.specs.Byte.{isTagNameByte}
 use Rattle.lexical.specs.Name.{isDisallowedName}
-use Rattle.lexical.proofs.Cases.{split, clash, excluded, and_left, and_right}
+use Rattle.lexical.proofs.Cases.{split, clash, excluded, and-left, and-right}
 use Rattle.lexical.proofs.Members.{disallowed-length}
 use Rattle.rules.specs.Search.{begins}
-use Rattle.rules.specs.Block.{name_of, afterName}
+use Rattle.rules.specs.Block.{nameOf, afterName}
 use Rattle.rules.specs.Withhold.{Piece, pieces}
 use Rattle.rules.specs.Filter.{endsTagName, disallowedName, isDisallowed, isCounted, replaced, filtered}
 use Rattle.rules.specs.declared.Rules.{Rules}
@@ -42,15 +42,15 @@ past-name (x ∷ s) h =
 
 name-others : (s : List ℕ) → disallowedName s ≡ true → 4 ≤ run isOther s
 name-others s h =
-    let n = disallowed-length (name_of s) (and_left (isDisallowedName (name_of s)) (endsTagName (afterName s)) h) in
-    let l = past-name s (and_right (isDisallowedName (name_of s)) (endsTagName (afterName s)) h) in
+    let n = disallowed-length (nameOf s) (and-left (isDisallowedName (nameOf s)) (endsTagName (afterName s)) h) in
+    let l = past-name s (and-right (isDisallowedName (nameOf s)) (endsTagName (afterName s)) h) in
     omega (arith, n, l, length-take (run isTagNameByte s) s)
 
 slash-others : (s : List ℕ) → begins (bytes "/") s ≡ true → disallowedName (drop 1 s) ≡ true → 4 ≤ run isOther s
 unfolding run
 slash-others [] h d = clash false h refl
 slash-others (x ∷ s) h d =
-    let e = eqb-true x (byte "/") (and_left (eqb x (byte "/")) true h) in
+    let e = eqb-true x (byte "/") (and-left (eqb x (byte "/")) true h) in
     let l = name-others s d in
     rw e (omega (arith, l))
 
@@ -58,11 +58,11 @@ tag-others : (x : ℕ) (s : List ℕ) → isDisallowed (x ∷ s) ≡ true → 4 
 unfolding isDisallowed
 tag-others x s h =
     split (begins (bytes "<") (x ∷ s) && disallowedName s)
-    (λ e. name-others s (and_right (begins (bytes "<") (x ∷ s)) (disallowedName s) e))
+    (λ e. name-others s (and-right (begins (bytes "<") (x ∷ s)) (disallowedName s) e))
     (λ e.
     let g : (begins (bytes "</") (x ∷ s) && disallowedName (drop 1 s)) ≡ true = rw e at h in
-    slash-others s (and_right (eqb x (byte "<")) (begins (bytes "/") s) (and_left (begins (bytes "</") (x ∷ s)) (disallowedName (drop 1 s)) g))
-    (and_right (begins (bytes "</") (x ∷ s)) (disallowedName (drop 1 s)) g))
+    slash-others s (and-right (eqb x (byte "<")) (begins (bytes "/") s) (and-left (begins (bytes "</") (x ∷ s)) (disallowedName (drop 1 s)) g))
+    (and-right (begins (bytes "</") (x ∷ s)) (disallowedName (drop 1 s)) g))
 
 -- ---- k bytes in front are no `<`
 bounded : (i : ℕ) (ps : List Piece) (s : List ℕ) (k : ℕ) → k ≤ run isOther s → 5 * length (replaced i ps s) + 3 * k ≤ 8 * length s
@@ -71,7 +71,7 @@ bounded i ps [] k h = omega arith
 bounded i ps (x ∷ s) k h =
     split (isCounted i ps && isDisallowed (x ∷ s))
     (λ t.
-    let d = and_right (isCounted i ps) (isDisallowed (x ∷ s)) t in
+    let d = and-right (isCounted i ps) (isDisallowed (x ∷ s)) t in
     let l = bounded (suc i) ps s 4 (tag-others x s d) in
     split (eqb x (byte "<")) (λ e. let z = rw e at h in rw t (omega (arith, l, z))) (λ e. clash (isDisallowed (x ∷ s)) d (not-a-tag x s e)))
     (λ t.

@@ -8,7 +8,7 @@ use lib.ListN.{length, take, drop}
 use borrow.Author.Tests.{ltb-false}
 use Rattle.lexical.specs.Text.{limit}
 use Rattle.lexical.specs.Buffer.{Written}
-use Rattle.lexical.proofs.Stores.{written_as}
+use Rattle.lexical.proofs.Stores.{written-as}
 use Rattle.rules.specs.Refusal.{bulletinRefusal, outputRefusal}
 use Rattle.rules.specs.Withhold.{Piece, piece, written}
 use Rattle.rules.specs.Output.{outputOf, Writes}
@@ -29,7 +29,7 @@ abbrev pub filtering : (text : List ℕ) → Replacing text
 filtering text =
     record {
       ahead = λ i ps. replaced i ps (drop i text);
-      in_place = λ p. pieceBytes text (isBlock p.which) p.start p.stop;
+      in-place = λ p. pieceBytes text (isBlock p.which) p.start p.stop;
       by-piece = λ i p ps o. replaced-next text i (length text) p ps o;
       by-none = λ i. replaced-none i (drop i text);
     }
@@ -40,8 +40,8 @@ module _ (ρ : Rules) (text flags : List ℕ) where
 
   -- what comes in place of the piece is what the code makes by its bit
   told : {ps : List Piece} (start stop : ℕ) (b : Bool) (d : Cursor) (leads : Leads ρ text flags ps start stop b d)
-      → pieceBytes text b start stop ≡ (filtering text).in_place (piece start stop leads.which)
-  told start stop b d leads = ap (λ t. pieceBytes text t start stop) (sym leads.is_block)
+      → pieceBytes text b start stop ≡ (filtering text).in-place (piece start stop leads.which)
+  told start stop b d leads = ap (λ t. pieceBytes text t start stop) (sym leads.is-block)
 
   -- ---- the length
   module _ (c : Cursor) (from size : ℕ) (walking : LengthUpTo c from size) where
@@ -67,7 +67,7 @@ module _ (ρ : Rules) (text flags : List ℕ) where
       shown-on start stop b d leads mid new n v w =
           let e = told start stop b d leads in
           replaced-shown ρ text flags (filtering text) old room out c from size showing start stop b d leads mid new n
-          (w.behind ∙ ap (λ t. size + (start - from) + length t) e) v (written_as _ (sym e) w.bytes-are)
+          (w.behind ∙ ap (λ t. size + (start - from) + length t) e) v (written-as _ (sym e) w.bytes-are)
 
       pub shows-filtered : length text ≤ from → Writes 0 (filtered ρ text flags) old (WrittenBytes size) out
       unfolding filtered

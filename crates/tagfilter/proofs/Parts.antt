@@ -12,11 +12,11 @@ use Rattle.lexical.specs.Text.{byte, bytes, run}
 use Rattle.lexical.specs.Buffer.{stored, Written}
 use Rattle.lexical.proofs.Cases.{split, excluded}
 use Rattle.lexical.proofs.Suffix.{suffix-in, drop-take, parts}
-use Rattle.lexical.proofs.Run.{run_length}
-use Rattle.lexical.proofs.Stores.{nothing_written, then, same, written_as, written-whole}
+use Rattle.lexical.proofs.Run.{run-length}
+use Rattle.lexical.proofs.Stores.{nothing-written, then, same, written-as, written-whole}
 use Rattle.rules.specs.Search.{choose}
 use Rattle.rules.specs.Filter.{isDisallowed}
-use Rattle.walk.specs.Remaining.{is_plain}
+use Rattle.walk.specs.Remaining.{isPlain}
 use Rattle.tagfilter.specs.Part.{replacedPart, replacedBetween, Passed, NextTag, WritesPart}
 
 -- ---- what is no `<`
@@ -24,17 +24,17 @@ pub not-a-tag : (x : ℕ) (xs : List ℕ) → eqb x (byte "<") ≡ false → isD
 unfolding isDisallowed
 not-a-tag x xs e = rw e
 
-plain-stays : (n : ℕ) (s : List ℕ) → replacedPart n s ≡ take (run is_plain (take n s)) s ++ replacedPart (n - run is_plain (take n s)) (drop (run is_plain (take n s)) s)
+plain-stays : (n : ℕ) (s : List ℕ) → replacedPart n s ≡ take (run isPlain (take n s)) s ++ replacedPart (n - run isPlain (take n s)) (drop (run isPlain (take n s)) s)
 unfolding replacedPart run
 plain-stays zero s = refl
 plain-stays (suc n) [] = let z : suc n - 0 ≡ suc n = omega arith in rw z
 plain-stays (suc n) (x ∷ s) =
     let z : suc n - 0 ≡ suc n = omega arith in
-    split (is_plain x)
+    split (isPlain x)
     (λ h.
-    let r = run is_plain (take n s) in
+    let r = run isPlain (take n s) in
     let y : suc n - suc r ≡ n - r = omega arith in
-    rw (h, not-a-tag x s (excluded is_plain (byte "<") x refl h), y) (ap (λ (t : List ℕ). x ∷ t) (plain-stays n s)))
+    rw (h, not-a-tag x s (excluded isPlain (byte "<") x refl h), y) (ap (λ (t : List ℕ). x ∷ t) (plain-stays n s)))
     (λ h. rw (h, z))
 
 -- no more than four bytes come in place of one
@@ -46,8 +46,8 @@ part-bound (suc n) (x ∷ s) = let l = part-bound n s in split (isDisallowed (x 
 
 -- ---- from one index to another
 module _ (text : List ℕ) (stop : ℕ) where
-  pub passed_on : (i j k : ℕ) → Passed text stop i j → Passed text stop j k → Passed text stop i k
-  passed_on i j k p q =
+  pub passed-on : (i j k : ℕ) → Passed text stop i j → Passed text stop j k → Passed text stop i k
+  passed-on i j k p q =
       let a = p.from in
       let b = q.from in
       let front = take (j - i) (drop i text) in
@@ -60,13 +60,13 @@ module _ (text : List ℕ) (stop : ℕ) where
       }
 
   -- up to the next `<` of the line
-  pub passed-plain : (front : List ℕ) → front ≡ take (stop - 0) text → (i j : ℕ) → i ≤ stop → j ≡ i + run is_plain (drop i front) → stop ≤ length text → Passed text stop i j
+  pub passed-plain : (front : List ℕ) → front ≡ take (stop - 0) text → (i j : ℕ) → i ≤ stop → j ≡ i + run isPlain (drop i front) → stop ≤ length text → Passed text stop i j
   passed-plain front f i j h e l =
-      let n = run is_plain (take (stop - i) (drop i text)) in
+      let n = run isPlain (take (stop - i) (drop i text)) in
       let w : stop - 0 ≡ stop = omega arith in
       let g : drop i front ≡ take (stop - i) (drop i text) = ap (drop i) f ∙ ap (λ (k : ℕ). drop i (take k text)) w ∙ drop-take i stop text in
-      let r : run is_plain (drop i front) ≡ n = ap (run is_plain) g in
-      let m : n ≤ length (take (stop - i) (drop i text)) = run_length is_plain (take (stop - i) (drop i text)) in
+      let r : run isPlain (drop i front) ≡ n = ap (run isPlain) g in
+      let m : n ≤ length (take (stop - i) (drop i text)) = run-length isPlain (take (stop - i) (drop i text)) in
       let s : length (take (stop - i) (drop i text)) ≡ stop - i = length-take-le (stop - i) (drop i text) (omega (arith, length-drop i text)) in
       let q : i + n ≡ j = omega (arith, e, r) in
       let z : j - i ≡ n = omega (arith, e, r) in
@@ -100,12 +100,12 @@ module _ (text : List ℕ) (stop : ℕ) where
         record { from = omega arith; to = omega arith; same = here false e ∙ sym (rw (z, suffix-in text i k)) }
 
     -- at a tag
-    pub at_tag : isDisallowed (drop i text) ≡ true → replacedBetween text i stop ≡ bytes "&lt;" ++ replacedBetween text (i + 1) stop
-    at_tag e = here true e
+    pub at-tag : isDisallowed (drop i text) ≡ true → replacedBetween text i stop ≡ bytes "&lt;" ++ replacedBetween text (i + 1) stop
+    at-tag e = here true e
 
-  pub nothing_left : replacedBetween text stop stop ≡ []
+  pub nothing-left : replacedBetween text stop stop ≡ []
   unfolding replacedPart
-  nothing_left = let z : stop - stop ≡ 0 = omega arith in rw z
+  nothing-left = let z : stop - stop ≡ 0 = omega arith in rw z
 
   -- ---- the length
   abbrev sizeFrom : ℕ → ℕ
@@ -121,16 +121,16 @@ module _ (text : List ℕ) (stop : ℕ) where
     pub between-length : (i j : ℕ) → Passed text stop i j → length (take (j - i) (drop i text)) ≡ j - i
     between-length i j p = let a = p.from in let b = p.to in length-take-le (j - i) (drop i text) (omega (arith, length-drop i text))
 
-    passed_length : (i j : ℕ) → Passed text stop i j → sizeFrom i ≡ j - i + sizeFrom j
-    passed_length i j p = omega (arith, ap length p.same ∙ length-append (take (j - i) (drop i text)) (replacedBetween text j stop), between-length i j p)
+    passed-length : (i j : ℕ) → Passed text stop i j → sizeFrom i ≡ j - i + sizeFrom j
+    passed-length i j p = omega (arith, ap length p.same ∙ length-append (take (j - i) (drop i text)) (replacedBetween text j stop), between-length i j p)
 
     module _ (start : ℕ) where
-      pub counted_start : (tag : ℕ) → NextTag text start stop tag → Counted start tag (stop - start)
-      counted_start tag n =
+      pub counted-start : (tag : ℕ) → NextTag text start stop tag → Counted start tag (stop - start)
+      counted-start tag n =
           let p = n.passed in
           let a = p.from in
           let b = p.to in
-          record { sum = omega (arith, passed_length start tag p); to = b; found = n.tag }
+          record { sum = omega (arith, passed-length start tag p); to = b; found = n.tag }
 
       module _ (tag size : ℕ) (c : Counted start tag size) where
         pub counted-on : tag < stop → (next : ℕ) → NextTag text (tag + 1) stop next → Counted start next (size + 3)
@@ -138,8 +138,8 @@ module _ (text : List ℕ) (stop : ℕ) where
             let p = n.passed in
             let a = p.from in
             let b = p.to in
-            let t = ap length (at_tag tag h l (c.found h)) in
-            record { sum = omega (arith, passed_length (tag + 1) next p, t, c.sum); to = b; found = n.tag }
+            let t = ap length (at-tag tag h l (c.found h)) in
+            record { sum = omega (arith, passed-length (tag + 1) next p, t, c.sum); to = b; found = n.tag }
 
         pub counted-bound : size ≤ stop + 4 * stop
         counted-bound = omega (arith, c.sum, part-bound (stop - start) (drop start text))
@@ -147,7 +147,7 @@ module _ (text : List ℕ) (stop : ℕ) where
         pub counted-end : stop ≤ tag → size ≡ sizeFrom start
         counted-end h =
             let e : tag ≡ stop = omega (arith, c.to) in
-            let z : sizeFrom tag ≡ 0 = ap sizeFrom e ∙ ap length nothing_left in
+            let z : sizeFrom tag ≡ 0 = ap sizeFrom e ∙ ap length nothing-left in
             omega (arith, z, c.sum)
 
 -- ---- writing
@@ -160,7 +160,7 @@ module _ (old : List ℕ) (at : ℕ) (whole : List ℕ) where
     pub place : size ≡ at + length done
 
   pub up-to-start : UpTo old at whole
-  up-to-start = record { done = []; is = refl; in-front = nothing_written; place = omega arith }
+  up-to-start = record { done = []; is = refl; in-front = nothing-written; place = omega arith }
 
   module _ (out : List ℕ) (size : ℕ) (rest : List ℕ) (u : UpTo out size rest) where
     pub to-come : size + length rest ≡ at + length whole
@@ -186,7 +186,7 @@ module _ (old : List ℕ) (at : ℕ) (whole : List ℕ) where
   pub part-written : (out : List ℕ) (size : ℕ) → UpTo out size [] → WritesPart old at whole out size
   part-written out size u =
       let e : whole ≡ u.done = sym u.is ∙ append-nil u.done in
-      record { bytes-are = written_as whole e u.in-front; behind = u.place ∙ ap (λ (t : List ℕ). at + length t) (sym e) }
+      record { bytes-are = written-as whole e u.in-front; behind = u.place ∙ ap (λ (t : List ℕ). at + length t) (sym e) }
 
 -- ---- a part, from tag to tag
 module _ (text : List ℕ) (start stop : ℕ) (l : stop ≤ length text) (old : List ℕ) (at : ℕ) (room : at + length (replacedBetween text start stop) ≤ length old) where
@@ -197,8 +197,8 @@ module _ (text : List ℕ) (start stop : ℕ) (l : stop ≤ length text) (old : 
     abbrev passed : List ℕ
     passed = take (tag - from) (drop from text)
 
-    front_length : length passed ≡ tag - from
-    front_length = between-length text stop l from tag n.passed
+    front-length : length passed ≡ tag - from
+    front-length = between-length text stop l from tag n.passed
 
     -- a tag: what stands before it, and `&lt;`
     module _ (h : tag < stop) where
@@ -206,16 +206,16 @@ module _ (text : List ℕ) (start stop : ℕ) (l : stop ≤ length text) (old : 
       more = replacedBetween text (tag + 1) stop
 
       splits : replacedBetween text from stop ≡ passed ++ (bytes "&lt;" ++ more)
-      splits = n.passed.same ∙ ap (λ (t : List ℕ). passed ++ t) (at_tag text stop tag h l (n.tag h))
+      splits = n.passed.same ∙ ap (λ (t : List ℕ). passed ++ t) (at-tag text stop tag h l (n.tag h))
 
       pub room-here : size + (tag - from) + 4 ≤ length old
-      room-here = omega (arith, to-come old at whole out size _ u, ap length splits ∙ length-append passed (bytes "&lt;" ++ more), front_length)
+      room-here = omega (arith, to-come old at whole out size _ u, ap length splits ∙ length-append passed (bytes "&lt;" ++ more), front-length)
 
       pub tag-written : (mid new : List ℕ) → Written out size (take (length out - size) passed) mid → Written mid (size + (tag - from)) (bytes "&lt;") new
           → UpTo old at whole new (size + (tag - from) + 4) more
       tag-written mid new v w =
           let copied = copied-whole old at whole out size _ u room passed (bytes "&lt;" ++ more) mid splits v in
-          let first = up-to-on old at whole out size _ u passed (bytes "&lt;" ++ more) mid (size + (tag - from)) splits copied (ap (λ (k : ℕ). size + k) (sym front_length)) in
+          let first = up-to-on old at whole out size _ u passed (bytes "&lt;" ++ more) mid (size + (tag - from)) splits copied (ap (λ (k : ℕ). size + k) (sym front-length)) in
           up-to-on old at whole mid (size + (tag - from)) _ first (bytes "&lt;") more new (size + (tag - from) + 4) refl w refl
 
     -- no more tags: the rest
@@ -225,10 +225,10 @@ module _ (text : List ℕ) (start stop : ℕ) (l : stop ≤ length text) (old : 
           let e : tag ≡ stop = omega (arith, n.passed.to) in
           n.passed.same
           ∙ ap (λ (k : ℕ). take (k - from) (drop from text) ++ replacedBetween text k stop) e
-          ∙ ap (λ (t : List ℕ). take (stop - from) (drop from text) ++ t) (nothing_left text stop)
+          ∙ ap (λ (t : List ℕ). take (stop - from) (drop from text) ++ t) (nothing-left text stop)
 
       rest-length : length (take (stop - from) (drop from text)) ≡ stop - from
-      rest-length = let e : tag ≡ stop = omega (arith, n.passed.to) in ap (λ (k : ℕ). length (take (k - from) (drop from text))) (sym e) ∙ front_length ∙ ap (λ (k : ℕ). k - from) e
+      rest-length = let e : tag ≡ stop = omega (arith, n.passed.to) in ap (λ (k : ℕ). length (take (k - from) (drop from text))) (sym e) ∙ front-length ∙ ap (λ (k : ℕ). k - from) e
 
       pub room-behind : size + (stop - from) ≤ length old
       room-behind = omega (arith, to-come old at whole out size _ u, ap length rest-is ∙ length-append (take (stop - from) (drop from text)) [], rest-length)

@@ -7,7 +7,7 @@ use native.Mathlib.Omega.{arith}
 use lib.ListN.{length, take, drop, length-append, length-drop}
 use lib.Seq.{length-take-le}
 use Rattle.lexical.specs.Buffer.{Written}
-use Rattle.lexical.proofs.Stores.{then, same, written_as, written-whole}
+use Rattle.lexical.proofs.Stores.{then, same, written-as, written-whole}
 use Rattle.tagfilter.specs.Part.{replacedBetween, countedEnd, pieceBytes, WritesPart}
 use Rattle.tagfilter.proofs.Replaced.{end-some, end-to}
 
@@ -49,6 +49,6 @@ module _ (text : List ℕ) (block : Bool) (start stop end : ℕ) (e : end ≡ co
       piece-written new v =
           let copied = written-whole rest (omega (arith, rest-fits, rest-length, same w.bytes-are)) v in
           record {
-            bytes-are = written_as (pieceBytes text block start stop) bytes-are (then w.behind w.bytes-are copied);
+            bytes-are = written-as (pieceBytes text block start stop) bytes-are (then w.behind w.bytes-are copied);
             behind = omega (arith, w.behind, sizes);
           }

@@ -11,11 +11,11 @@ use lib.ListN.{take, drop}
 use lib.Seq.{drop-drop}
 use borrow.Author.Tests.{eq-eqb, ne_eqb, le-leb, lt-leb, lt-ltb, le-ltb, ltb-true, ltb-false}
 use Rattle.lexical.specs.Text.{bytes}
-use Rattle.lexical.proofs.Cases.{split, and_no}
+use Rattle.lexical.proofs.Cases.{split, and-no}
 use Rattle.rules.specs.Search.{choose}
 use Rattle.rules.specs.Withhold.{Which, inline, block, Piece, piece}
 use Rattle.rules.specs.Filter.{isDisallowed, countsIn, isCounted, replaced}
-use Rattle.runs.proofs.Ordered.{Ordered, none, one_more}
+use Rattle.runs.proofs.Ordered.{Ordered, none, one-more}
 use Rattle.walk.specs.Remaining.{isBlock}
 use Rattle.tagfilter.specs.Part.{replacedPart, countedEnd, pieceBytes}
 
@@ -40,7 +40,7 @@ counts-is inline i a b =
     (λ l.
     let h = ltb-false i a l in
     split (ltb a i)
-    (λ m. let g = ltb-true a i m in rw (ne_eqb i a (λ e. omega (arith, e, g)), le-ltb i (a + 1) (omega (arith, g))) (sym (and_no (leb a i))))
+    (λ m. let g = ltb-true a i m in rw (ne_eqb i a (λ e. omega (arith, e, g)), le-ltb i (a + 1) (omega (arith, g))) (sym (and-no (leb a i))))
     (λ m. let g = ltb-false a i m in rw (eq-eqb i a (omega (arith, h, g)), le-leb a i h, lt-ltb i (a + 1) (omega (arith, g)))))
 counts-is (block k c) i a b = refl
 
@@ -54,14 +54,14 @@ module _ (w : Which) (a b : ℕ) where
   not-before : (i : ℕ) → i < a → countsIn w i (piece a b w) ≡ false
   not-before i l = counts-is w i a b ∙ rw (lt-leb a i l)
 
-  not_behind : (i : ℕ) → end ≤ i → countsIn w i (piece a b w) ≡ false
-  not_behind i h = counts-is w i a b ∙ rw (le-ltb i end h) (and_no (leb a i))
+  not-behind : (i : ℕ) → end ≤ i → countsIn w i (piece a b w) ≡ false
+  not-behind i h = counts-is w i a b ∙ rw (le-ltb i end h) (and-no (leb a i))
 
 -- ---- before the pieces
 before-none : {lo hi : ℕ} {ps : List Piece} (i : ℕ) → Ordered lo hi ps → i < lo → isCounted i ps ≡ false
 unfolding isCounted
 before-none i (none h) l = refl
-before-none i (one_more {p = p} a b o) l = rw (not-before p.which p.start p.stop i (omega arith), before-none i o (omega arith))
+before-none i (one-more {p = p} a b o) l = rw (not-before p.which p.start p.stop i (omega arith), before-none i o (omega arith))
 
 shown-before : {lo hi : ℕ} {ps : List Piece} → Ordered lo hi ps → (n i : ℕ) (s : List ℕ) → i + n ≡ lo → replaced i ps s ≡ take n s ++ replaced lo ps (drop n s)
 unfolding replaced
@@ -82,15 +82,15 @@ module _ (w : Which) (a b hi : ℕ) (ps : List Piece) (some : a < b) (o : Ordere
   behind-first : (i : ℕ) (s : List ℕ) → b ≤ i → replaced i here s ≡ replaced i ps s
   unfolding replaced isCounted
   behind-first i [] h = refl
-  behind-first i (x ∷ s) h = rw (not_behind w a b i (omega (arith, end-to (isBlock w) a b some)), behind-first (suc i) s (omega arith))
+  behind-first i (x ∷ s) h = rw (not-behind w a b i (omega (arith, end-to (isBlock w) a b some)), behind-first (suc i) s (omega arith))
 
   -- behind the places that can count
-  in_rest : (n i : ℕ) (s : List ℕ) → end w a b ≤ i → i + n ≡ b → replaced i here s ≡ take n s ++ replaced b ps (drop n s)
+  in-rest : (n i : ℕ) (s : List ℕ) → end w a b ≤ i → i + n ≡ b → replaced i here s ≡ take n s ++ replaced b ps (drop n s)
   unfolding replaced isCounted
-  in_rest zero i s h e = behind-first i s (omega arith) ∙ ap (λ (j : ℕ). replaced j ps s) (omega arith)
-  in_rest (suc n) i [] h e = refl
-  in_rest (suc n) i (x ∷ s) h e =
-      rw (not_behind w a b i h, before-none i o (omega arith)) (ap (λ (t : List ℕ). x ∷ t) (in_rest n (suc i) s (omega arith) (omega arith)))
+  in-rest zero i s h e = behind-first i s (omega arith) ∙ ap (λ (j : ℕ). replaced j ps s) (omega arith)
+  in-rest (suc n) i [] h e = refl
+  in-rest (suc n) i (x ∷ s) h e =
+      rw (not-behind w a b i h, before-none i o (omega arith)) (ap (λ (t : List ℕ). x ∷ t) (in-rest n (suc i) s (omega arith) (omega arith)))
 
   -- among them
   in-part : (n i : ℕ) (s : List ℕ) → a ≤ i → i + n ≡ end w a b → replaced i here s ≡ replacedPart n s ++ replaced (end w a b) here (drop n s)
@@ -101,8 +101,8 @@ module _ (w : Which) (a b hi : ℕ) (ps : List Piece) (some : a < b) (o : Ordere
       rw (counts w a b i h (omega (arith, e)), in-part n (suc i) s (omega arith) (omega (arith, e))) (step-append (isDisallowed (x ∷ s)) x (replacedPart n s) (replaced (end w a b) here (drop n s)))
 
   -- s is the bulletin from the piece's start on
-  pub at_piece : (text : List ℕ) → replaced a here (drop a text) ≡ pieceBytes text (isBlock w) a b ++ replaced b ps (drop b text)
-  at_piece text =
+  pub at-piece : (text : List ℕ) → replaced a here (drop a text) ≡ pieceBytes text (isBlock w) a b ++ replaced b ps (drop b text)
+  at-piece text =
       let c = end w a b in
       let l = end-some (isBlock w) a b some in
       let m = end-to (isBlock w) a b some in
@@ -115,18 +115,18 @@ module _ (w : Which) (a b hi : ℕ) (ps : List Piece) (some : a < b) (o : Ordere
       let q : c ≤ c = omega arith in
       in-part (c - a) a (drop a text) (omega arith) f
       ∙ ap (λ (t : List ℕ). part ++ replaced c here t) d
-      ∙ ap (λ (t : List ℕ). part ++ t) (in_rest (b - c) c (drop c text) q g ∙ ap (λ (t : List ℕ). rest ++ replaced b ps t) r)
+      ∙ ap (λ (t : List ℕ). part ++ t) (in-rest (b - c) c (drop c text) q g ∙ ap (λ (t : List ℕ). rest ++ replaced b ps t) r)
       ∙ sym (append_assoc part rest (replaced b ps (drop b text)))
 
 -- ---- the whole: before the first piece, of it, and from its stop on
 pub replaced-next : (text : List ℕ) (from hi : ℕ) (p : Piece) (ps : List Piece) → Ordered from hi (p ∷ ps)
     → replaced from (p ∷ ps) (drop from text)
     ≡ take (p.start - from) (drop from text) ++ (pieceBytes text (isBlock p.which) p.start p.stop ++ replaced p.stop ps (drop p.stop text))
-replaced-next text from hi p ps (one_more a b o) =
+replaced-next text from hi p ps (one-more a b o) =
     let same : p.start ≤ p.start = omega arith in
     let n = p.start - from in
     let e : from + n ≡ p.start = omega arith in
     let here : drop n (drop from text) ≡ drop p.start text = drop-drop n from text ∙ ap (λ (k : ℕ). drop k text) e in
-    shown-before (one_more same b o) n from (drop from text) e
+    shown-before (one-more same b o) n from (drop from text) e
     ∙ ap (λ (t : List ℕ). take n (drop from text) ++ replaced p.start (p ∷ ps) t) here
-    ∙ ap (λ (t : List ℕ). take n (drop from text) ++ t) (at_piece p.which p.start p.stop hi ps b o text)
+    ∙ ap (λ (t : List ℕ). take n (drop from text) ++ t) (at-piece p.which p.start p.stop hi ps b o text)

@@ -15,9 +15,9 @@ use Rattle.lexical.proofs.Ending.{ends-out}
 use Rattle.rules.specs.Reading.{crate as ofCrate}
 use Rattle.rules.specs.Refusal.{tooLong, wrongCount, wrongFlag, blockRefusal}
 use Rattle.rules.specs.Lines.{Line}
-use Rattle.rules.specs.Block.{kind_of, extentOf, inLast, stopAfter}
-use Rattle.rules.specs.Scan.{Found, foundBlock, no_block, refusedBlock, block_of, linesAt, blockAt, blockScan}
-use Rattle.rules.proofs.Refusals.{not-met, given-passes, given_is, refused-by, refused-some}
+use Rattle.rules.specs.Block.{kindOf, extentOf, inLast, stopAfter}
+use Rattle.rules.specs.Scan.{Found, foundBlock, noBlock, refusedBlock, blockOf, linesAt, blockAt, blockScan}
+use Rattle.rules.proofs.Refusals.{not-met, given-passes, given-is, refused-by, refused-some}
 use Rattle.trace.proofs.Stops.{Between}
 use Rattle.rules.proofs.LineLaws.{sizes, lines-size}
 
@@ -42,16 +42,16 @@ stop-to i (suc zero) l ls = omega arith
 stop-to i (suc (suc n)) l [] = omega arith
 stop-to i (suc (suc n)) l (m ∷ ls) = let h = stop-to (i + length l.content + length m.lead) (suc n) m ls in omega arith
 
-found_between : (i n : ℕ) (ls : List Line) (b : Found) → sizes ls ≡ n - i → i ≤ n → block_of ofCrate i ls ≡ foundBlock b → Between i b.stop n
-unfolding block_of
-found_between i n [] b e h f = let z : ◌≡◌ {A = ℕ} 0 1 = cc in absurd (omega arith)
-found_between i n (l ∷ ls) b e h f =
-    split (eqb (kind_of ofCrate l) 0)
+found-between : (i n : ℕ) (ls : List Line) (b : Found) → sizes ls ≡ n - i → i ≤ n → blockOf ofCrate i ls ≡ foundBlock b → Between i b.stop n
+unfolding blockOf
+found-between i n [] b e h f = let z : ◌≡◌ {A = ℕ} 0 1 = cc in absurd (omega arith)
+found-between i n (l ∷ ls) b e h f =
+    split (eqb (kindOf ofCrate l) 0)
     (λ t. let g = rw t at f in let z : ◌≡◌ {A = ℕ} 0 1 = cc in absurd (omega arith))
     (λ t.
     let g = rw t at f in
-    let s : stopAfter i (extentOf ofCrate (kind_of ofCrate l) l ls).lines (l ∷ ls) ≡ b.stop = cc in
-    record { from = omega (arith, s, stop-from i (extentOf ofCrate (kind_of ofCrate l) l ls).lines (l ∷ ls)); to = omega (arith, s, stop-to i (extentOf ofCrate (kind_of ofCrate l) l ls).lines l ls) })
+    let s : stopAfter i (extentOf ofCrate (kindOf ofCrate l) l ls).lines (l ∷ ls) ≡ b.stop = cc in
+    record { from = omega (arith, s, stop-from i (extentOf ofCrate (kindOf ofCrate l) l ls).lines (l ∷ ls)); to = omega (arith, s, stop-to i (extentOf ofCrate (kindOf ofCrate l) l ls).lines l ls) })
 
 -- ---- what was checked
 start-within : (s : List ℕ) (i : ℕ) → isLineStart s i ≡ true → i ≤ length s
@@ -77,14 +77,14 @@ module _ (text flags : List ℕ) (i : ℕ) where
 
   pub block-between : i ≤ length text → (b : Found) → blockAt ofCrate text flags i ≡ foundBlock b → Between i b.stop (length text)
   unfolding blockAt
-  block-between h b f = found_between i (length text) (linesAt text flags i) b (size-from text flags i) h f
+  block-between h b f = found-between i (length text) (linesAt text flags i) b (size-from text flags i) h f
 
   -- ---- by the answer
-  no-refusal : (ls : List Line) (m : ℕ) → block_of ofCrate i ls ≡ refusedBlock m → ⊥
-  unfolding block_of
+  no-refusal : (ls : List Line) (m : ℕ) → blockOf ofCrate i ls ≡ refusedBlock m → ⊥
+  unfolding blockOf
   no-refusal [] m e = let z : ◌≡◌ {A = ℕ} 0 1 = cc in omega arith
   no-refusal (l ∷ ls) m e =
-      split (eqb (kind_of ofCrate l) 0)
+      split (eqb (kindOf ofCrate l) 0)
       (λ t. let g = rw t at e in let z : ◌≡◌ {A = ℕ} 0 1 = cc in omega arith)
       (λ t. let g = rw t at e in let z : ◌≡◌ {A = ℕ} 0 1 = cc in omega arith)
 
@@ -101,7 +101,7 @@ module _ (text flags : List ℕ) (i : ℕ) where
   found-no-refusal : (b : Found) (m : ℕ) → refusedBlock m ≡ foundBlock b → ⊥
   found-no-refusal b m e = let z : ◌≡◌ {A = ℕ} 0 1 = cc in omega arith
 
-  none-no-refusal : (m : ℕ) → refusedBlock m ≡ no_block → ⊥
+  none-no-refusal : (m : ℕ) → refusedBlock m ≡ noBlock → ⊥
   none-no-refusal m e = let z : ◌≡◌ {A = ℕ} 0 1 = cc in omega arith
 
   pub block-found-passes : (b : Found) → blockScan ofCrate text flags i ≡ foundBlock b → blockRefusal text flags i ≡ 0
@@ -112,8 +112,8 @@ module _ (text flags : List ℕ) (i : ℕ) where
   pub block-found-at : (b : Found) → blockScan ofCrate text flags i ≡ foundBlock b → blockAt ofCrate text flags i ≡ foundBlock b
   unfolding blockScan
   block-found-at b e =
-      given_is refusedBlock (blockAt ofCrate text flags i) (foundBlock b) (found-no-refusal b) (blockRefusal text flags i) e
+      given-is refusedBlock (blockAt ofCrate text flags i) (foundBlock b) (found-no-refusal b) (blockRefusal text flags i) e
 
-  pub block-none-passes : blockScan ofCrate text flags i ≡ no_block → blockRefusal text flags i ≡ 0
+  pub block-none-passes : blockScan ofCrate text flags i ≡ noBlock → blockRefusal text flags i ≡ 0
   unfolding blockScan
-  block-none-passes e = given-passes refusedBlock (blockAt ofCrate text flags i) no_block none-no-refusal (blockRefusal text flags i) e
+  block-none-passes e = given-passes refusedBlock (blockAt ofCrate text flags i) noBlock none-no-refusal (blockRefusal text flags i) e

@@ -57,12 +57,12 @@ both (y ∷ ys) = (
       (λ r. simp (h, r) (pushed x y (cutLines false e ys) ∙ (both ys).1 y e))),
 )
 
-last_byte : (b : Bool) (s : List ℕ) → 0 < length s → lastEnds b s ≡ isLineEndingByte (get_or s (length s - 1) 0)
-last_byte b [] h = absurd (omega arith)
-last_byte b (x ∷ []) h = refl
-last_byte b (x ∷ y ∷ ys) h =
+last-byte : (b : Bool) (s : List ℕ) → 0 < length s → lastEnds b s ≡ isLineEndingByte (get_or s (length s - 1) 0)
+last-byte b [] h = absurd (omega arith)
+last-byte b (x ∷ []) h = refl
+last-byte b (x ∷ y ∷ ys) h =
     let e : suc (suc (length ys)) - 1 ≡ suc (suc (length ys) - 1) = omega arith in
-    last_byte (isLineEndingByte x) (y ∷ ys) (omega arith) ∙ rw e
+    last-byte (isLineEndingByte x) (y ∷ ys) (omega arith) ∙ rw e
 
 module _ (text : List ℕ) (start stop : ℕ) where
   pub empty-here : start ≡ stop → endsEmpty (taken text start stop) ≡ true
@@ -74,7 +74,7 @@ module _ (text : List ℕ) (start stop : ℕ) where
       let s = take n (drop start text) in
       let len : length s ≡ n = length-take-le n (drop start text) (rw length-drop (omega arith)) in
       let at : start + (n - 1) ≡ stop - 1 = omega arith in
-      (both s).0 false [] ∙ last_byte true s (omega arith)
+      (both s).0 false [] ∙ last-byte true s (omega arith)
       ∙ ap (λ m. isLineEndingByte (get_or s (m - 1) 0)) len
       ∙ ap isLineEndingByte (get_or-take n (drop start text) (n - 1) 0 (omega arith) ∙ get_or-drop start text (n - 1) 0 ∙ ap (λ m. get_or text m 0) at)
 

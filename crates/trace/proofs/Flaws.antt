@@ -106,8 +106,8 @@ module _ (w : ℕ) where
     pub event-fits : get_or s at 0 ≤ 12 → at + (2 + 3 * w) ≤ length s
     event-fits h = omega (arith, (whole s at e).fits, event-length h)
 
-    pub last_fits : 12 < get_or s at 0 → at + (2 + w) ≤ length s
-    last_fits h = omega (arith, (whole s at e).fits, last-length h)
+    pub last-fits : 12 < get_or s at 0 → at + (2 + w) ≤ length s
+    last-fits h = omega (arith, (whole s at e).fits, last-length h)
 
   -- a record more on the way: with n > 0 to go, one less behind it, or its refusal
   module _ (s : List ℕ) (n : ℕ) where
@@ -123,19 +123,19 @@ module _ (w : ℕ) where
     past-flaw h = rw (record-none s h)
 
   module _ (s : List ℕ) (at left : ℕ) (more : 0 < left) where
-    one_more : left ≡ suc (left - 1)
-    one_more = omega arith
+    one-more : left ≡ suc (left - 1)
+    one-more = omega arith
 
     pub read-on : flawOf w (drop at s) ≡ 0 → readTrace w left (drop at s) ≡ readTrace w (left - 1) (drop (at + recordLength w (get_or s at 0)) s)
     read-on e =
-        ap (λ n. readTrace w n (drop at s)) one_more
+        ap (λ n. readTrace w n (drop at s)) one-more
         ∙ past-whole (drop at s) (left - 1) e
         ∙ ap (λ x. readTrace w (left - 1) (drop (recordLength w x) (drop at s))) (head s at e)
         ∙ ap (readTrace w (left - 1)) (drop-drop (recordLength w (get_or s at 0)) at s)
 
     pub read-stop : (flawOf w (drop at s) ≡ 0 → ⊥) → readTrace w left (drop at s) ≡ refusedRecord (flawOf w (drop at s))
-    read-stop h = ap (λ n. readTrace w n (drop at s)) one_more ∙ past-flaw (drop at s) (left - 1) h
+    read-stop h = ap (λ n. readTrace w n (drop at s)) one-more ∙ past-flaw (drop at s) (left - 1) h
 
-  pub read_here : (s : List ℕ) (at left : ℕ) → left ≡ 0 → readTrace w left (drop at s) ≡ recordAt w (drop at s)
+  pub read-here : (s : List ℕ) (at left : ℕ) → left ≡ 0 → readTrace w left (drop at s) ≡ recordAt w (drop at s)
   unfolding readTrace
-  read_here s at left z = rw z
+  read-here s at left z = rw z

@@ -15,7 +15,7 @@ use Rattle.lexical.specs.Buffer.{Written}
 use Rattle.trace.specs.Writing.{eventLength}
 use Rattle.trace.specs.Walk.{Ready, Marked}
 use Rattle.trace.specs.declared.events.Pen.{Pen}
-use Rattle.lexical.proofs.Stores.{then, nothing_written}
+use Rattle.lexical.proofs.Stores.{then, nothing-written}
 use Rattle.trace.proofs.Stores.{point-length}
 
 -- ---- bytes of events
@@ -51,8 +51,8 @@ arrives {text} {pen} {index} p ready e =
     e ∙ ap (λ q. movedBy (index - pen.point.index) q (drop pen.point.index text)) ready.stands ∙ point-on text pen.point.index index ready.forward
 
 module _ {text : List ℕ} {pen : Pen} {index : ℕ} (ready : Ready text pen index) (p : Point) (e : p ≡ pointAt text index) where
-  pub index_is : p.index ≡ index
-  index_is = ap (λ q. q.index) e ∙ (standing text index ready.small ready.within).index_is
+  pub index-is : p.index ≡ index
+  index-is = ap (λ q. q.index) e ∙ (standing text index ready.small ready.within).index-is
 
   pub vs-small : p.vs < 256
   vs-small = let z : p.vs ≡ 0 = ap (λ q. q.vs) e ∙ (standing text index ready.small ready.within).vs-is in omega arith
@@ -63,12 +63,12 @@ pub marked-one : {text old new : List ℕ} {pen : Pen} {kind index : ℕ} (p : P
 marked-one {text} {old} {new} {pen} {kind} {index} p ready e w = record {
   bytes = subst (λ b. Written old pen.at b new) (ap (λ q. kind ∷ pointBytes width q) e ∙ sym (one-event width text kind index)) w;
   at-is = refl;
-  stands = e ∙ ap (pointAt text) (sym (index_is ready p e));
+  stands = e ∙ ap (pointAt text) (sym (index-is ready p e));
 }
 
 -- ---- one marking behind the other
-pub and_then : {text old mid new : List ℕ} {pen pen' r : Pen} {a b : List Event} → Marked text pen a old mid pen' → Marked text pen' b mid new r → Marked text pen (a ++ b) old new r
-and_then {text} {old} {mid} {new} {pen} {pen'} {r} {a} {b} v w = record {
+pub and-then : {text old mid new : List ℕ} {pen pen' r : Pen} {a b : List Event} → Marked text pen a old mid pen' → Marked text pen' b mid new r → Marked text pen (a ++ b) old new r
+and-then {text} {old} {mid} {new} {pen} {pen'} {r} {a} {b} v w = record {
   bytes = subst (λ l. Written old pen.at l new) (sym (events-append width text a b)) (then (v.at-is ∙ ap (λ n. pen.at + n) (sym (events-length text a))) v.bytes w.bytes);
   at-is = omega (arith, v.at-is, w.at-is, length-append a b);
   stands = w.stands;
@@ -81,17 +81,17 @@ renamed {text} {old} {new} {pen} {r} {a} b e m = subst (λ es. Marked text pen e
 -- nothing is marked
 pub marked-none : {text old : List ℕ} {pen : Pen} → pen.point ≡ pointAt text pen.point.index → Marked text pen [] old old pen
 unfolding eventBytes
-marked-none e = record { bytes = nothing_written; at-is = omega arith; stands = e }
+marked-none e = record { bytes = nothing-written; at-is = omega arith; stands = e }
 
 -- an exit is one more than its enter
 pub marked-pair : {text old mid new : List ℕ} {pen pen' r : Pen} (kind from to : ℕ) → Marked text pen (event kind from ∷ []) old mid pen'
     → Marked text pen' (event (kind + 1) to ∷ []) mid new r → Marked text pen (pair kind from to) old new r
-marked-pair {text} {old} {mid} {new} {pen} {pen'} {r} kind from to v w = and_then v (subst (λ k. Marked text pen' (event k to ∷ []) mid new r) (add-one kind) w)
+marked-pair {text} {old} {mid} {new} {pen} {pen'} {r} kind from to v w = and-then v (subst (λ k. Marked text pen' (event k to ∷ []) mid new r) (add-one kind) w)
 
 -- ready to go on
-pub ready_on : {text old new : List ℕ} {pen r : Pen} {es : List Event} {j : ℕ} → Marked text pen es old new r → length text ≤ limit → r.point.index ≤ j → j ≤ length text → Ready text r j
-ready_on m s f w = record { small = s; stands = m.stands; forward = f; within = w }
+pub ready-on : {text old new : List ℕ} {pen r : Pen} {es : List Event} {j : ℕ} → Marked text pen es old new r → length text ≤ limit → r.point.index ≤ j → j ≤ length text → Ready text r j
+ready-on m s f w = record { small = s; stands = m.stands; forward = f; within = w }
 
 -- bytes behind the events
-pub and_last : {text old mid new bs : List ℕ} {pen r : Pen} {es : List Event} → Marked text pen es old mid r → Written mid r.at bs new → Written old pen.at (eventBytes width text es ++ bs) new
-and_last {text} {old} {mid} {new} {bs} {pen} {r} {es} m w = then (m.at-is ∙ ap (λ n. pen.at + n) (sym (events-length text es))) m.bytes w
+pub and-last : {text old mid new bs : List ℕ} {pen r : Pen} {es : List Event} → Marked text pen es old mid r → Written mid r.at bs new → Written old pen.at (eventBytes width text es ++ bs) new
+and-last {text} {old} {mid} {new} {bs} {pen} {r} {es} m w = then (m.at-is ∙ ap (λ n. pen.at + n) (sym (events-length text es))) m.bytes w

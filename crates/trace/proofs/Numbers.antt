@@ -10,9 +10,9 @@ use Rattle.rules.specs.Trace.{number}
 
 -- the number of w + 1 bytes from j on
 module _ (s : List ℕ) (w j : ℕ) where
-  pub number_in : number (suc w) (drop j s) ≡ get_or s j 0 + 256 * number w (drop (j + 1) s)
+  pub number-in : number (suc w) (drop j s) ≡ get_or s j 0 + 256 * number w (drop (j + 1) s)
   unfolding number
-  number_in = rw (get_or-drop j s 0 0, add-zero, drop-drop 1 j s)
+  number-in = rw (get_or-drop j s 0 0, add-zero, drop-drop 1 j s)
 
 -- one more than the largest number of w bytes
 abbrev pub top : ℕ → ℕ
@@ -28,25 +28,25 @@ top-three (suc (suc (suc (suc w)))) h = absurd (omega arith)
 
 -- one turn of a loop that reads from the last byte to the first: the byte at j comes in front
 module _ (s : List ℕ) (width i j value : ℕ) (l : 0 < i) (h : i ≤ width) where
-  one_more : width - (i - 1) ≡ suc (width - i)
-  one_more = omega arith
+  one-more : width - (i - 1) ≡ suc (width - i)
+  one-more = omega arith
 
   place : j + (i - 1) + 1 ≡ j + i
   place = omega arith
 
   pub number-turn : value ≡ number (width - i) (drop (j + i) s) → value * 256 + get_or s (j + (i - 1)) 0 ≡ number (width - (i - 1)) (drop (j + (i - 1)) s)
-  number-turn e = let n = number_in s (width - i) (j + (i - 1)) in rw (one_more, n, place, ← e) (omega arith)
+  number-turn e = let n = number-in s (width - i) (j + (i - 1)) in rw (one-more, n, place, ← e) (omega arith)
 
   pub top-turn : value < top (width - i) → get_or s (j + (i - 1)) 0 < 256 → value * 256 + get_or s (j + (i - 1)) 0 < top (width - (i - 1))
-  top-turn a b = rw one_more (omega arith)
+  top-turn a b = rw one-more (omega arith)
 
 -- nothing read yet, and all read
 pub number-start : (s : List ℕ) (width j : ℕ) → 0 ≡ number (width - width) (drop (j + width) s)
 unfolding number
 number-start s width j = let z : width - width ≡ 0 = omega arith in rw z
 
-pub top_start : (width : ℕ) → 0 < top (width - width)
-top_start width = let z : width - width ≡ 0 = omega arith in rw z (omega arith)
+pub top-start : (width : ℕ) → 0 < top (width - width)
+top-start width = let z : width - width ≡ 0 = omega arith in rw z (omega arith)
 
 pub number-end : (s : List ℕ) (width i j : ℕ) → i ≡ 0 → number (width - i) (drop (j + i) s) ≡ number width (drop j s)
 number-end s width i j z =

@@ -5,7 +5,7 @@ use Prim.Native.Nat.{ℕ, ◌+◌, ◌*◌, ◌≤◌}
 use native.Mathlib.Omega.{arith}
 use lib.ListN.{length, length-append}
 use Rattle.rules.specs.Reading.{crate as ofCrate}
-use Rattle.rules.specs.Scan.{InlineAnswer, foundInline, noInline, refusedInline, inlineScan, Found, BlockAnswer, foundBlock, no_block, refusedBlock, blockScan}
+use Rattle.rules.specs.Scan.{InlineAnswer, foundInline, noInline, refusedInline, inlineScan, Found, BlockAnswer, foundBlock, noBlock, refusedBlock, blockScan}
 use Rattle.rules.specs.Refusal.{inlineRefusal, blockRefusal, outputRefusal}
 use Rattle.rules.specs.Trace.{Event, eventBytes, lastBytes, width, inlineTrace, flowTrace, blockTrace}
 use Rattle.rules.specs.Withhold.{written}
@@ -16,7 +16,7 @@ use Rattle.rules.proofs.Outputs.{read-refused, all-written, fits}
 use Rattle.trace.specs.Answer.{inlineTraceRefusal, inlineTraced, inlineBuffer, blockTraceRefusal, blockTraced, blockBuffer}
 use Rattle.lexical.specs.Buffer.{Written}
 use Rattle.trace.specs.Writing.{eventLength, lastLength}
-use Rattle.lexical.proofs.Stores.{from_front}
+use Rattle.lexical.proofs.Stores.{from-front}
 use Rattle.trace.proofs.Stores.{last-length}
 use Rattle.trace.proofs.Marks.{events-length}
 
@@ -27,7 +27,7 @@ trace-length text es kind stop n = omega (arith, length-append (eventBytes width
 -- ---- a trace that is written
 pub is-traced : (trace old : List ℕ) {new : List ℕ} (n : ℕ) → n ≡ length trace → n ≤ length old → Written old 0 trace new → Writes (outputRefusal 0 (length old) trace) trace old (WrittenBytes n) new
 unfolding written
-is-traced trace old n e h w = let f : length trace ≤ length old = omega arith in fits trace old f (all-written trace old n e (w.is ∙ from_front trace old f))
+is-traced trace old n e h w = let f : length trace ≤ length old = omega arith in fits trace old f (all-written trace old n e (w.is ∙ from-front trace old f))
 
 -- ---- by the answer of the inline scan
 module _ (text : List ℕ) (i k : ℕ) (old : List ℕ) where
@@ -72,10 +72,10 @@ module _ (text flags : List ℕ) (i : ℕ) (old : List ℕ) where
   unfolding blockTrace
   block-found-by b kind k e f t = block-by 0 (foundBlock b) e f (rw k at t)
 
-  pub block-none-by : {r : Output} {new : List ℕ} → blockScan ofCrate text flags i ≡ no_block → blockRefusal text flags i ≡ 0
+  pub block-none-by : {r : Output} {new : List ℕ} → blockScan ofCrate text flags i ≡ noBlock → blockRefusal text flags i ≡ 0
       → Writes (outputRefusal 0 (length old) (lastBytes width 14 i 0)) (lastBytes width 14 i 0) old r new → IsBlock r new
   unfolding blockTrace
-  block-none-by e f t = block-by 0 no_block e f t
+  block-none-by e f t = block-by 0 noBlock e f t
 
   pub block-refused-by : (n : ℕ) → blockScan ofCrate text flags i ≡ refusedBlock n → blockRefusal text flags i ≡ n → (n ≡ 0 → ⊥) → IsBlock (Refused n) old
   block-refused-by n e f h = block-by n (refusedBlock n) e f (read-refused (blockTrace text i (refusedBlock n)) old n h)

@@ -13,10 +13,10 @@ use Rattle.lexical.specs.Line.{lineLength}
 use Rattle.lexical.specs.Point.{start, pointAt}
 use Rattle.lexical.specs.declared.event.Point.{Point}
 use Rattle.lexical.proofs.Moves.{point-start}
-use Rattle.lexical.proofs.Run.{run_length}
+use Rattle.lexical.proofs.Run.{run-length}
 use Rattle.lexical.proofs.Suffix.{drop-take}
 use Rattle.rules.specs.Lines.{cutLines}
-use Rattle.rules.specs.Trace.{width, Event, event, pair, pair_of, htmlText, htmlTextData, htmlFlow, htmlFlowData, textEvents, flowEvents, taken, eventBytes, flowExit, lastBytes, inlineTrace, flowTrace}
+use Rattle.rules.specs.Trace.{width, Event, event, pair, pairOf, htmlText, htmlTextData, htmlFlow, htmlFlowData, textEvents, flowEvents, taken, eventBytes, flowExit, lastBytes, inlineTrace, flowTrace}
 use Rattle.rules.specs.Scan.{foundInline}
 use Rattle.rules.proofs.Cut.{cut-first, content-length, run-content, run-within, space-apart}
 use Rattle.trace.specs.Writing.{eventLength, lastLength}
@@ -30,12 +30,12 @@ ready-start {text} {index} p e s w =
     let z : p.index ≡ 0 = ap (λ q. q.index) e in
     record { small = s; stands = e ∙ sym (point-start text) ∙ ap (pointAt text) (sym z); forward = omega arith; within = w }
 
-pub from_start : {text old new : List ℕ} {es : List Event} {r : Pen} (p : Point) → p ≡ start → Marked text (record { point = p; at = 0 }) es old new r → Marked text penStart es old new r
-from_start {text} {old} {new} {es} {r} p e m = subst (λ q. Marked text (record { point = q; at = 0 }) es old new r) e m
+pub from-start : {text old new : List ℕ} {es : List Event} {r : Pen} (p : Point) → p ≡ start → Marked text (record { point = p; at = 0 }) es old new r → Marked text penStart es old new r
+from-start {text} {old} {new} {es} {r} p e m = subst (λ q. Marked text (record { point = q; at = 0 }) es old new r) e m
 
 -- ---- the first line
 pub first-within : (s : List ℕ) (i : ℕ) → i ≤ length s → firstTo s i ≤ length s
-first-within s i h = omega (arith, run_length (λ b. not (isLineEndingByte b)) (drop i s), length-drop i s)
+first-within s i h = omega (arith, run-length (λ b. not (isLineEndingByte b)) (drop i s), length-drop i s)
 
 -- ---- inline
 module _ (s : List ℕ) (i exit first x : ℕ) (f : first ≡ firstTo s i) (e : x ≡ first) where
@@ -58,8 +58,8 @@ module _ (text F : List ℕ) (i stop k : ℕ) (h : i ≤ stop) (w : stop ≤ len
   front-is : F ≡ take stop text
   front-is = let z : stop - 0 ≡ stop = omega arith in e ∙ ap (λ n. take n text) z
 
-  pub front_length : length F ≡ stop
-  front_length = ap length front-is ∙ length-take-le stop text w
+  pub front-length : length F ≡ stop
+  front-length = ap length front-is ∙ length-take-le stop text w
 
   pub text-trace : inlineTrace text i (foundInline stop k) ≡ eventBytes width text (textPiece F i stop) ++ lastBytes width 13 stop k
   unfolding inlineTrace
@@ -68,7 +68,7 @@ module _ (text F : List ℕ) (i stop k : ℕ) (h : i ≤ stop) (w : stop ≤ len
   -- by the length that was counted
   module _ (n : ℕ) (c : n ≡ eventLength * length (textPiece F i (length F)) + lastLength) where
     pub text-size : n ≡ eventLength * length (textPiece F i stop) + lastLength
-    text-size = c ∙ ap (λ m. eventLength * length (textPiece F i m) + lastLength) front_length
+    text-size = c ∙ ap (λ m. eventLength * length (textPiece F i m) + lastLength) front-length
 
     pub text-trace-length : n ≡ length (inlineTrace text i (foundInline stop k))
     text-trace-length = text-size ∙ sym (ap length text-trace ∙ trace-length text (textPiece F i stop) 13 stop k)
@@ -76,16 +76,16 @@ module _ (text F : List ℕ) (i stop k : ℕ) (h : i ≤ stop) (w : stop ≤ len
 -- ---- blocks
 module _ (s : List ℕ) (i exit indent first x : ℕ) (n : indent ≡ indentTo s i) (f : first ≡ firstTo s i) (e : x ≡ first) where
   pub flow-piece : flowPiece s i exit
-      ≡ event htmlFlow i ∷ (pair_of htmlFlowData i indent ++ (pair htmlFlowData indent first ++ (restEvents true s x ++ (event (suc htmlFlow) exit ∷ []))))
+      ≡ event htmlFlow i ∷ (pairOf htmlFlowData i indent ++ (pair htmlFlowData indent first ++ (restEvents true s x ++ (event (suc htmlFlow) exit ∷ []))))
   unfolding flowPiece
   flow-piece = rw (e, f, n)
 
-  pub flow-piece-count : length (flowPiece s i exit) ≡ 4 + length (pair_of htmlFlowData i indent) + length (restEvents true s x)
+  pub flow-piece-count : length (flowPiece s i exit) ≡ 4 + length (pairOf htmlFlowData i indent) + length (restEvents true s x)
   flow-piece-count =
       omega (
         arith,
         ap length flow-piece,
-        length-append (pair_of htmlFlowData i indent) (pair htmlFlowData indent first ++ (restEvents true s x ++ (event (suc htmlFlow) exit ∷ []))),
+        length-append (pairOf htmlFlowData i indent) (pair htmlFlowData indent first ++ (restEvents true s x ++ (event (suc htmlFlow) exit ∷ []))),
         length-append (restEvents true s x) (event (suc htmlFlow) exit ∷ []),
       )
 
@@ -100,8 +100,8 @@ flow-events text i exit stop h =
     ∙ rw (cut-first [] s, content-length s, run-content (λ b. eqb b (byte " ")) space-apart s, drop-drop (lineLength s) i (take stop text))
 
 -- where a block is left adds no event
-same_count : (s : List ℕ) (i a b : ℕ) → length (flowPiece s i a) ≡ length (flowPiece s i b)
-same_count s i a b = flow-piece-count s i a _ _ _ refl refl refl ∙ sym (flow-piece-count s i b _ _ _ refl refl refl)
+same-count : (s : List ℕ) (i a b : ℕ) → length (flowPiece s i a) ≡ length (flowPiece s i b)
+same-count s i a b = flow-piece-count s i a _ _ _ refl refl refl ∙ sym (flow-piece-count s i b _ _ _ refl refl refl)
 
 -- the trace of a block that was found; F is the text before the stop
 module _ (text F : List ℕ) (i kind stop : ℕ) (closed : Bool) (h : i ≤ stop) (w : stop ≤ length text) (e : F ≡ take (stop - 0) (drop 0 text)) where
@@ -114,7 +114,7 @@ module _ (text F : List ℕ) (i kind stop : ℕ) (closed : Bool) (h : i ≤ stop
 
   module _ (n : ℕ) (c : n ≡ eventLength * length (flowPiece F i 0) + lastLength) where
     pub flow-size : n ≡ eventLength * length (flowPiece F i exit) + lastLength
-    flow-size = c ∙ ap (λ m. eventLength * m + lastLength) (same_count F i 0 exit)
+    flow-size = c ∙ ap (λ m. eventLength * m + lastLength) (same-count F i 0 exit)
 
     pub flow-trace-length : n ≡ length (flowTrace text i kind stop closed)
     flow-trace-length = flow-size ∙ sym (ap length flow-trace ∙ trace-length text (flowPiece F i exit) 14 stop kind)

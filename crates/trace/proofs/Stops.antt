@@ -9,11 +9,11 @@ use borrow.Author.Tests.{ltb-false}
 use Rattle.lexical.specs.Text.{limit}
 use Rattle.rules.specs.Reading.{crate as ofCrate}
 use Rattle.rules.specs.Refusal.{tooLong, pastEnd, inlineRefusal}
-use Rattle.rules.proofs.Refusals.{not-met, given-passes, given_is, refused-by, refused-some as some}
+use Rattle.rules.proofs.Refusals.{not-met, given-passes, given-is, refused-by, refused-some as some}
 use Rattle.rules.specs.Inline.{Read, takes, lacks, readInline}
 use Rattle.rules.specs.Scan.{InlineAnswer, foundInline, noInline, refusedInline, inlineAnswer, inlineAt, inlineScan}
 use Rattle.rules.specs.declared.Rules.{Rules}
-use Rattle.html.specs.TextMachine.{step_of, follow, run_of}
+use Rattle.html.specs.TextMachine.{stepOf, follow, runOf}
 use Rattle.html.specs.declared.tokenizer.StateName.{StateName}
 use Rattle.html.specs.declared.tokenizer.StateName.TheVariants.{Start}
 use Rattle.html.specs.declared.tokenizer.State.{State}
@@ -34,10 +34,10 @@ after (Next s c) k xs go h = more (h s c)
 after Ok k xs go h = leaves xs k (omega arith)
 after Nok k xs go h = keeps k
 
-run-leaves : (ρ : Rules) (st : StateName) (k : ℕ) (s : List ℕ) → Leaves (length s) (run_of ρ st k s)
-unfolding run_of
+run-leaves : (ρ : Rules) (st : StateName) (k : ℕ) (s : List ℕ) → Leaves (length s) (runOf ρ st k s)
+unfolding runOf
 run-leaves ρ st k [] = keeps k
-run-leaves ρ st k (x ∷ xs) = after (step_of ρ st k x) k xs (λ s c. run_of ρ s c xs) (λ s c. run-leaves ρ s c xs)
+run-leaves ρ st k (x ∷ xs) = after (stepOf ρ st k x) k xs (λ s c. runOf ρ s c xs) (λ s c. run-leaves ρ s c xs)
 
 pub record Between (i stop n : ℕ) : Type 0 where
   pub from : i ≤ stop
@@ -52,7 +52,7 @@ stop-of n i m (lacks c) stop k (keeps d) e l f = let z : ◌≡◌ {A = ℕ} 0 1
 module _ (text : List ℕ) (i k : ℕ) where
   pub stop-between : k ≤ 5 → i ≤ length text → (stop c : ℕ) → inlineAt ofCrate text i k ≡ foundInline stop c → Between i stop (length text)
   stop-between h l stop c f =
-      stop-of (length text) i (length (drop i text)) (run_of ofCrate Start k (drop i text)) stop c (run-leaves ofCrate Start k (drop i text)) (length-drop i text) l
+      stop-of (length text) i (length (drop i text)) (runOf ofCrate Start k (drop i text)) stop c (run-leaves ofCrate Start k (drop i text)) (length-drop i text) l
       (with-carry ofCrate text i k refl h ∙ f)
 
 -- ---- what was checked
@@ -98,10 +98,10 @@ module _ (text : List ℕ) (i k : ℕ) where
   unfolding inlineScan
   found-passes stop c e = given-passes refused (inlineAt ofCrate text i k) (foundInline stop c) (found-no-refusal stop c) (inlineRefusal text i k) e
 
-  pub found_at : (stop c : ℕ) → inlineScan ofCrate text i k ≡ foundInline stop c → inlineAt ofCrate text i k ≡ foundInline stop c
+  pub found-at : (stop c : ℕ) → inlineScan ofCrate text i k ≡ foundInline stop c → inlineAt ofCrate text i k ≡ foundInline stop c
   unfolding inlineScan
-  found_at stop c e = given_is refused (inlineAt ofCrate text i k) (foundInline stop c) (found-no-refusal stop c) (inlineRefusal text i k) e
+  found-at stop c e = given-is refused (inlineAt ofCrate text i k) (foundInline stop c) (found-no-refusal stop c) (inlineRefusal text i k) e
 
-  pub none_passes : (c : ℕ) → inlineScan ofCrate text i k ≡ noInline c → inlineRefusal text i k ≡ 0
+  pub none-passes : (c : ℕ) → inlineScan ofCrate text i k ≡ noInline c → inlineRefusal text i k ≡ 0
   unfolding inlineScan
-  none_passes c e = given-passes refused (inlineAt ofCrate text i k) (noInline c) (none-no-refusal c) (inlineRefusal text i k) e
+  none-passes c e = given-passes refused (inlineAt ofCrate text i k) (noInline c) (none-no-refusal c) (inlineRefusal text i k) e

@@ -24,9 +24,9 @@ field-turn l at width i rest h =
     let p : at + (i + 1) ≡ suc (at + i) = omega arith in
     rw (e, p)
 
-pub field_end : (l : List ℕ) (at width i rest : ℕ) → width ≤ i → stored l (at + i) (field (width - i) rest) ≡ l
+pub field-end : (l : List ℕ) (at width i rest : ℕ) → width ≤ i → stored l (at + i) (field (width - i) rest) ≡ l
 unfolding field stored
-field_end l at width i rest h = let e : width - i ≡ 0 = omega arith in rw e
+field-end l at width i rest h = let e : width - i ≡ 0 = omega arith in rw e
 
 pub field-start : (l : List ℕ) (at width value : ℕ) → stored l (at + 0) (field (width - 0) value) ≡ stored l at (field width value)
 field-start l at width value = let a : at + 0 ≡ at = omega arith in let w : width - 0 ≡ width = omega arith in rw (a, w)
@@ -63,9 +63,9 @@ module _ (w : ℕ) where
       ∙ behind m (at + 1) w p.line (field w p.column ++ (field w p.index ++ (p.vs ∷ [])))
       ∙ second l at kind (field w p.line ++ (field w p.column ++ (field w p.index ++ (p.vs ∷ [])))))
 
-  last_stored : (l : List ℕ) (at kind stop n : ℕ) → set (stored (set l at kind) (at + 1) (field w stop)) (at + 1 + w) n ≡ stored l at (lastBytes w kind stop n)
+  last-stored : (l : List ℕ) (at kind stop n : ℕ) → set (stored (set l at kind) (at + 1) (field w stop)) (at + 1 + w) n ≡ stored l at (lastBytes w kind stop n)
   unfolding lastBytes
-  last_stored l at kind stop n =
+  last-stored l at kind stop n =
       single (stored (set l at kind) (at + 1) (field w stop)) (at + 1 + w) n
       ∙ behind (set l at kind) (at + 1) w stop (n ∷ [])
       ∙ second l at kind (field w stop ++ (n ∷ []))
@@ -77,4 +77,4 @@ module _ (w : ℕ) where
   event-steps {l} {l1} {l2} {l3} {at} {kind} p e1 e2 e3 = record { is = rw (e3.is, e2.is, e1.is) (event-stored l at kind p) }
 
   pub last-steps : {l l1 : List ℕ} {at : ℕ} (kind stop n : ℕ) → Written (set l at kind) (at + 1) (field w stop) l1 → Written l at (lastBytes w kind stop n) (set l1 (at + 1 + w) n)
-  last-steps {l} {l1} {at} kind stop n e = record { is = rw e.is (last_stored l at kind stop n) }
+  last-steps {l} {l1} {at} kind stop n e = record { is = rw e.is (last-stored l at kind stop n) }

@@ -11,18 +11,18 @@ use Rattle.lexical.specs.Text.{run}
 use Rattle.lexical.specs.Byte.{isSpaceOrTab}
 use Rattle.lexical.specs.Line.{lineEnding, lineLength}
 use Rattle.lexical.proofs.Cases.{split}
-use Rattle.rules.specs.Trace.{pair, pair_of, spaceOrTab, htmlFlowData, htmlTextData, lineEndingKind, textLines, flowLines}
+use Rattle.rules.specs.Trace.{pair, pairOf, spaceOrTab, htmlFlowData, htmlTextData, lineEndingKind, textLines, flowLines}
 use Rattle.rules.proofs.Cut.{behind, behind-none, behind-one, lineFrom, lineTo, to-within, run-within, blank-apart, run-content, content-length, lead-length}
 use Rattle.trace.specs.Walk.{dataFrom, textLine, flowLine, lineEvents, restEvents}
 
-pub some : (k i j : ℕ) → i < j → pair_of k i j ≡ pair k i j
+pub some : (k i j : ℕ) → i < j → pairOf k i j ≡ pair k i j
 some k i j h = rw (lt-ltb i j h)
 
-pub none : (k i j : ℕ) → j ≤ i → pair_of k i j ≡ []
+pub none : (k i j : ℕ) → j ≤ i → pairOf k i j ≡ []
 none k i j h = rw (le-ltb i j h)
 
-pub at_most_two : (k i j : ℕ) → length (pair_of k i j) ≤ 2
-at_most_two k i j = split (ltb i j) (λ h. rw h (omega arith)) (λ h. rw h (omega arith))
+pub at-most-two : (k i j : ℕ) → length (pairOf k i j) ≤ 2
+at-most-two k i j = split (ltb i j) (λ h. rw h (omega arith)) (λ h. rw h (omega arith))
 
 -- ---- one line
 pub record Order (i from at to n : ℕ) : Type 0 where
@@ -32,18 +32,18 @@ pub record Order (i from at to n : ℕ) : Type 0 where
   pub ends : to ≤ n
 
 module _ (s : List ℕ) (i from to : ℕ) (f : from ≡ lineFrom s i) (t : to ≡ from + lineLength (drop from s)) where
-  pub to_is : to ≡ lineTo s i
-  to_is = t ∙ ap (λ n. n + lineLength (drop n s)) f
+  pub to-is : to ≡ lineTo s i
+  to-is = t ∙ ap (λ n. n + lineLength (drop n s)) f
 
   pub flow-order : i ≤ length s → Order i from from to (length s)
   flow-order h =
-      record { leads = omega arith; spaces = omega arith; holds = omega arith; ends = omega (arith, to_is, to-within s i h) }
+      record { leads = omega arith; spaces = omega arith; holds = omega arith; ends = omega (arith, to-is, to-within s i h) }
 
-  pub flow-is : flowLine s i ≡ pair lineEndingKind i from ++ pair_of htmlFlowData from to
+  pub flow-is : flowLine s i ≡ pair lineEndingKind i from ++ pairOf htmlFlowData from to
   unfolding flowLine
-  flow-is = rw (to_is, f)
+  flow-is = rw (to-is, f)
 
-  pub flow-count : length (flowLine s i) ≡ 2 + length (pair_of htmlFlowData from to)
+  pub flow-count : length (flowLine s i) ≡ 2 + length (pairOf htmlFlowData from to)
   flow-count = omega (arith, ap length flow-is)
 
   module _ (at : ℕ) (d : at ≡ from + run isSpaceOrTab (drop from s)) where
@@ -51,15 +51,15 @@ module _ (s : List ℕ) (i from to : ℕ) (f : from ≡ lineFrom s i) (t : to �
     text-order h =
         record { leads = omega arith; spaces = omega arith; holds = omega (arith, run-within isSpaceOrTab blank-apart (drop from s)); ends = (flow-order h).ends }
 
-    pub data_is : at ≡ dataFrom s i
-    data_is = d ∙ ap (λ n. n + run isSpaceOrTab (drop n s)) f
+    pub data-is : at ≡ dataFrom s i
+    data-is = d ∙ ap (λ n. n + run isSpaceOrTab (drop n s)) f
 
-    pub text-is : textLine s i ≡ pair lineEndingKind i from ++ (pair_of spaceOrTab from at ++ pair htmlTextData at to)
+    pub text-is : textLine s i ≡ pair lineEndingKind i from ++ (pairOf spaceOrTab from at ++ pair htmlTextData at to)
     unfolding textLine
-    text-is = rw (to_is, data_is, f)
+    text-is = rw (to-is, data-is, f)
 
-    pub text-count : length (textLine s i) ≡ 4 + length (pair_of spaceOrTab from at)
-    text-count = omega (arith, ap length text-is, length-append (pair_of spaceOrTab from at) (pair htmlTextData at to))
+    pub text-count : length (textLine s i) ≡ 4 + length (pairOf spaceOrTab from at)
+    text-count = omega (arith, ap length text-is, length-append (pairOf spaceOrTab from at) (pair htmlTextData at to))
 
 -- ---- all lines
 module _ (s : List ℕ) (i : ℕ) where
@@ -74,7 +74,7 @@ module _ (s : List ℕ) (i : ℕ) where
         from-lead,
         run-content isSpaceOrTab blank-apart (drop (lineFrom s i) s),
         content-length (drop (lineFrom s i) s),
-        append_assoc (pair_of spaceOrTab (lineFrom s i) (dataFrom s i)) (pair htmlTextData (dataFrom s i) (lineTo s i)) (textLines (lineTo s i) (behind (drop (lineTo s i) s))),
+        append_assoc (pairOf spaceOrTab (lineFrom s i) (dataFrom s i)) (pair htmlTextData (dataFrom s i) (lineTo s i)) (textLines (lineTo s i) (behind (drop (lineTo s i) s))),
       )
 
   flow-one : (lineEnding (drop i s) ≡ 0 → ⊥) → flowLines i (behind (drop i s)) ≡ flowLine s i ++ flowLines (lineTo s i) (behind (drop (lineTo s i) s))
@@ -102,5 +102,5 @@ module _ (s : List ℕ) (i : ℕ) where
   -- an ending and a line have at most six events, and at least a byte
   pub at-most-six : (flow : Bool) → length (lineEvents flow s i) ≤ 6
   unfolding lineEvents
-  at-most-six true = omega (arith, flow-count s i (lineFrom s i) (lineTo s i) refl refl, at_most_two htmlFlowData (lineFrom s i) (lineTo s i))
-  at-most-six false = omega (arith, text-count s i (lineFrom s i) (lineTo s i) refl refl (dataFrom s i) refl, at_most_two spaceOrTab (lineFrom s i) (dataFrom s i))
+  at-most-six true = omega (arith, flow-count s i (lineFrom s i) (lineTo s i) refl refl, at-most-two htmlFlowData (lineFrom s i) (lineTo s i))
+  at-most-six false = omega (arith, text-count s i (lineFrom s i) (lineTo s i) refl refl (dataFrom s i) refl, at-most-two spaceOrTab (lineFrom s i) (dataFrom s i))

@@ -6,7 +6,7 @@ use Rattle.lexical.specs.Point.{start, pointAt}
 use Rattle.lexical.specs.Line.{lineLength}
 use Rattle.rules.specs.Search.{choose}
 use Rattle.rules.specs.Block.{indentation}
-use Rattle.rules.specs.Trace.{width, Event, event, htmlText, htmlFlow, pair, pair_of, lineEndingKind, spaceOrTab, htmlTextData, htmlFlowData, textLines, flowLines, eventBytes}
+use Rattle.rules.specs.Trace.{width, Event, event, htmlText, htmlFlow, pair, pairOf, lineEndingKind, spaceOrTab, htmlTextData, htmlFlowData, textLines, flowLines, eventBytes}
 use Rattle.rules.proofs.Cut.{behind, lineFrom, lineTo}
 use Rattle.lexical.specs.Buffer.{Written}
 use Rattle.trace.specs.Writing.{eventLength}
@@ -19,11 +19,11 @@ dataFrom s i = lineFrom s i + run isSpaceOrTab (drop (lineFrom s i) s)
 unfoldable pub textLine : List ℕ → ℕ → List Event
 textLine s i =
     pair lineEndingKind i (lineFrom s i)
-    ++ (pair_of spaceOrTab (lineFrom s i) (dataFrom s i) ++ pair htmlTextData (dataFrom s i) (lineTo s i))
+    ++ (pairOf spaceOrTab (lineFrom s i) (dataFrom s i) ++ pair htmlTextData (dataFrom s i) (lineTo s i))
 
 -- in a block: the ending, and the data of a line that has bytes
 unfoldable pub flowLine : List ℕ → ℕ → List Event
-flowLine s i = pair lineEndingKind i (lineFrom s i) ++ pair_of htmlFlowData (lineFrom s i) (lineTo s i)
+flowLine s i = pair lineEndingKind i (lineFrom s i) ++ pairOf htmlFlowData (lineFrom s i) (lineTo s i)
 
 unfoldable pub lineEvents : Bool → List ℕ → ℕ → List Event
 lineEvents flow s i = choose flow (λ _. flowLine s i) (λ _. textLine s i)
@@ -46,7 +46,7 @@ indentTo s start = start + indentation (drop start s)
 unfoldable pub flowPiece : List ℕ → ℕ → ℕ → List Event
 flowPiece s start exit =
     event htmlFlow start
-    ∷ (pair_of htmlFlowData start (indentTo s start)
+    ∷ (pairOf htmlFlowData start (indentTo s start)
     ++ (pair htmlFlowData (indentTo s start) (firstTo s start) ++ (restEvents true s (firstTo s start) ++ (event (suc htmlFlow) exit ∷ []))))
 
 -- ---- marking

@@ -1,7 +1,7 @@
 // The events of a piece, with the point carried along from one to the next.
 ghost use Rattle.std.specs.Prelude.{◌≡◌, [], ◌∷◌, ◌++◌, ◌+◌, ◌*◌, ◌<◌, ◌≤◌, length};
 ghost use Rattle.lexical.specs.Text.{limit};
-ghost use Rattle.rules.specs.Trace.{event, pair, pair_of};
+ghost use Rattle.rules.specs.Trace.{event, pair, pairOf};
 ghost use Rattle.rules.proofs.Cut.{lineFrom, lineTo};
 ghost use Rattle.trace.specs.Writing.{eventLength};
 ghost use Rattle.trace.specs.Walk.{textLine, flowLine, lineEvents, restEvents, Ready, Marked};
@@ -73,8 +73,8 @@ pub(crate) fn mark_some(
 ) -> Pen
     requires ready { Ready text.now pen from }
     requires index_value { (pen.point.index ≡ from) × (from ≤ to) × (to ≤ length text.now) }
-    requires kind_bound { (kind < 255) × (pen.at + eventLength * length (pair_of kind from to) ≤ length out.old) }
-    ensures marked { Marked text.now pen (pair_of kind from to) out.old out.new result }
+    requires kind_bound { (kind < 255) × (pen.at + eventLength * length (pairOf kind from to) ≤ length out.old) }
+    ensures marked { Marked text.now pen (pairOf kind from to) out.old out.new result }
     ensures index_value_2 { result.point.index ≡ to }
 {
     if from < to {

@@ -7,7 +7,7 @@ use native.Mathlib.Omega.{arith}
 use lib.Dec.{eqb}
 use lib.ListN.{length, get_or, drop, length-drop}
 use borrow.Author.Tests.{eq-eqb, ne_eqb}
-use Rattle.lexical.proofs.Cases.{clash, and_right}
+use Rattle.lexical.proofs.Cases.{clash, and-right}
 use Rattle.lexical.proofs.Suffix.{suffix-in, suffix-out}
 use Rattle.rules.specs.Search.{begins}
 
@@ -43,7 +43,7 @@ begins-start word text index = let z : index + 0 ≡ index = omega arith in rw z
 pub begins-length : (p s : List ℕ) → begins p s ≡ true → length p ≤ length s
 begins-length [] s h = omega arith
 begins-length (p ∷ ps) [] h = clash false h refl
-begins-length (p ∷ ps) (x ∷ xs) h = omega (arith, begins-length ps xs (and_right (eqb x p) (begins ps xs) h))
+begins-length (p ∷ ps) (x ∷ xs) h = omega (arith, begins-length ps xs (and-right (eqb x p) (begins ps xs) h))
 
 -- a word with a byte, at an index, ends within the text
 pub begins-fits : (p s : List ℕ) (i : ℕ) → 1 ≤ length p → begins p (drop i s) ≡ true → i + length p ≤ length s

@@ -13,37 +13,37 @@ use Rattle.lexical.proofs.Cases.{split, clash}
 use Rattle.lexical.proofs.Suffix.{suffix-next}
 use Rattle.lexical.proofs.Ending.{ending-out}
 use Rattle.rules.specs.Search.{choose}
-use Rattle.rules.specs.Lines.{Line, lines_of}
-use Rattle.rules.specs.Block.{Extent, kind_of, extentOf, stopAfter}
-use Rattle.rules.specs.Scan.{Found, BlockAnswer, foundBlock, no_block, refusedBlock, blockFound, block_of}
+use Rattle.rules.specs.Lines.{Line, linesOf}
+use Rattle.rules.specs.Block.{Extent, kindOf, extentOf, stopAfter}
+use Rattle.rules.specs.Scan.{Found, BlockAnswer, foundBlock, noBlock, refusedBlock, blockFound, blockOf}
 use Rattle.rules.specs.Withhold.{Piece, piece, inline, block, marks, linePieces}
 use Rattle.rules.specs.declared.Rules.{Rules}
 use Rattle.rules.proofs.Cut.{content-length, lineFrom, lineTo, to-within}
-use Rattle.rules.proofs.LineLaws.{contentFrom, stopFrom, stop-from, stop_is}
+use Rattle.rules.proofs.LineLaws.{contentFrom, stopFrom, stop-from, stop-is}
 use Rattle.runs.proofs.Covered.{extent-some}
-use Rattle.walk.specs.Remaining.{line_at, fromLine, BlockEnd}
-use Rattle.walk.proofs.FromLine.{ending_there, read-to, line-ended, line-within, linesBehind, first-numbered, led-to, next-numbered, no_lines, piecesBehind, no_more, behind-line}
+use Rattle.walk.specs.Remaining.{lineAt, fromLine, BlockEnd}
+use Rattle.walk.proofs.FromLine.{ending-there, read-to, line-ended, line-within, linesBehind, first-numbered, led-to, next-numbered, no-lines, piecesBehind, no-more, behind-line}
 
 -- ---- what an answer says
-abbrev piece_of : ℕ → BlockAnswer → Piece
-piece_of i (foundBlock b) = piece i b.stop (block b.kind b.closed)
-piece_of i no_block = piece i i inline
-piece_of i (refusedBlock q) = piece i i inline
+abbrev pieceOf : ℕ → BlockAnswer → Piece
+pieceOf i (foundBlock b) = piece i b.stop (block b.kind b.closed)
+pieceOf i noBlock = piece i i inline
+pieceOf i (refusedBlock q) = piece i i inline
 
 abbrev stopOf : BlockAnswer → ℕ
 stopOf (foundBlock b) = b.stop
-stopOf no_block = 0
+stopOf noBlock = 0
 stopOf (refusedBlock q) = 0
 
 abbrev pub isFound : BlockAnswer → Bool
 isFound (foundBlock b) = true
-isFound no_block = false
+isFound noBlock = false
 isFound (refusedBlock q) = false
 
-abbrev pub is_refused : BlockAnswer → Bool
-is_refused (foundBlock b) = false
-is_refused no_block = false
-is_refused (refusedBlock q) = true
+abbrev pub isRefused : BlockAnswer → Bool
+isRefused (foundBlock b) = false
+isRefused noBlock = false
+isRefused (refusedBlock q) = true
 
 -- ---- the lines of a block
 -- the pieces behind a block that ends at stop, of lines of which the first stands behind the index e
@@ -67,7 +67,7 @@ module _ (ρ : Rules) (text flags : List ℕ) where
       → behindBlock ρ stop e (L e n) ≡ behindBlock ρ stop (lineTo text e) (L (lineTo text e) m)
   unfolding behindBlock
   pass stop e n m r h a b =
-      let some = ending_there text e h b in
+      let some = ending-there text e h b in
       rw (next-numbered text flags e n m r some, lt-ltb e stop a) (ap (λ t. behindBlock ρ stop t (L (lineTo text e) m)) (led-to text flags e n))
 
   -- m further lines
@@ -81,15 +81,15 @@ module _ (ρ : Rules) (text flags : List ℕ) where
       let to = lineTo text e in
       let rest = L (lineTo text e) (n + 1) in
       let r = sym (suffix-next flags n) in
-      let k = next-numbered text flags e n (n + 1) r (ending_there text e h b) in
+      let k = next-numbered text flags e n (n + 1) r (ending-there text e h b) in
       let stop : stopFrom e (suc m) (L e n) ≡ stopFrom (lineTo text e) m (L (lineTo text e) (n + 1)) = ap (stopFrom e (suc m)) k ∙ ap (λ t. stopFrom t m (L (lineTo text e) (n + 1))) (led-to text flags e n) in
-      let far : e < stopFrom e (suc m) (L e n) = omega (arith, stop, stop-from (lineTo text e) m (L (lineTo text e) (n + 1)), ending_there text e h b) in
+      let far : e < stopFrom e (suc m) (L e n) = omega (arith, stop, stop-from (lineTo text e) m (L (lineTo text e) (n + 1)), ending-there text e h b) in
       ap (λ ls. linePieces ρ e (marks ρ (suc m) false ls) ls) k
       ∙ ap (λ t. linePieces ρ t (marks ρ m false rest) rest) (led-to text flags e n)
       ∙ more-lines m to (n + 1) (line-ended text (lineFrom text e))
       ∙ ap (λ t. behindBlock ρ t to rest) (sym stop)
       ∙ sym (pass (stopFrom e (suc m) (L e n)) e n (n + 1) r h far b))
-      (λ l. rw (no_lines text flags e n (ending-out text e (ltb-false e (length text) l))) refl)
+      (λ l. rw (no-lines text flags e n (ending-out text e (ltb-false e (length text) l))) refl)
 
   -- the first line of a block, and the lines behind it
   module _ (i n m : ℕ) (r : drop m flags ≡ drop 1 (drop n flags)) where
@@ -97,10 +97,10 @@ module _ (ρ : Rules) (text flags : List ℕ) where
     E = i + lineLength (drop i text)
 
     abbrev l : Line
-    l = line_at text flags i n
+    l = lineAt text flags i n
 
     abbrev k : ℕ
-    k = kind_of ρ l
+    k = kindOf ρ l
 
     abbrev x : Extent
     x = extentOf ρ k l (L E m)
@@ -111,7 +111,7 @@ module _ (ρ : Rules) (text flags : List ℕ) where
     ends : stopAfter i x.lines (l ∷ L E m) ≡ stopFrom E further (L E m)
     ends =
         ap (λ t. stopAfter i t (l ∷ L E m)) (extent-some ρ k l (L E m))
-        ∙ stop_is further i l (L E m)
+        ∙ stop-is further i l (L E m)
         ∙ ap (λ t. stopFrom (i + t) further (L E m)) (content-length (drop i text))
 
     opened : eqb k 0 ≡ false
@@ -126,44 +126,44 @@ module _ (ρ : Rules) (text flags : List ℕ) where
         ∙ ap (λ ps. piece i (stopAfter i x.lines (l ∷ L E m)) (block k x.closed) ∷ ps) (more-lines further E m (line-ended text i))
         ∙ ap (λ t. piece i (stopAfter i x.lines (l ∷ L E m)) (block k x.closed) ∷ behindBlock ρ t E (L E m)) (sym ends))
 
-    found : (b : Found) → block_of ρ i (l ∷ L E m) ≡ foundBlock b
+    found : (b : Found) → blockOf ρ i (l ∷ L E m) ≡ foundBlock b
         → linePieces ρ i (marks ρ 0 false (l ∷ L E m)) (l ∷ L E m) ≡ piece i b.stop (block b.kind b.closed) ∷ behindBlock ρ b.stop E (L E m)
-    unfolding block_of
+    unfolding blockOf
     found b o =
-        split (eqb k 0) (λ h. let z : no_block ≡ foundBlock b = simp h at o in clash true refl (sym (ap isFound z)))
+        split (eqb k 0) (λ h. let z : noBlock ≡ foundBlock b = simp h at o in clash true refl (sym (ap isFound z)))
         (λ h.
         let f : foundBlock (blockFound ρ k i l (L E m) x) ≡ foundBlock b = simp h at o in
-        opened h ∙ ap (λ a. piece_of i a ∷ behindBlock ρ (stopOf a) E (L E m)) f)
+        opened h ∙ ap (λ a. pieceOf i a ∷ behindBlock ρ (stopOf a) E (L E m)) f)
 
     -- a block that was found is the next piece
-    pub block-lines : (b : Found) (stop : ℕ) → b.stop ≡ stop → block_of ρ i (lines_of (drop n flags) (drop i text)) ≡ foundBlock b
+    pub block-lines : (b : Found) (stop : ℕ) → b.stop ≡ stop → blockOf ρ i (linesOf (drop n flags) (drop i text)) ≡ foundBlock b
         → fromLine ρ text flags i n ≡ piece i stop (block b.kind b.closed) ∷ behindBlock ρ stop E (L E m)
     unfolding fromLine
     block-lines b stop s o =
         let f = first-numbered text flags i n m r in
-        ap (piecesBehind ρ i) f ∙ found b (ap (block_of ρ i) (sym f) ∙ o) ∙ ap (λ t. piece i t (block b.kind b.closed) ∷ behindBlock ρ t E (L E m)) s
+        ap (piecesBehind ρ i) f ∙ found b (ap (blockOf ρ i) (sym f) ∙ o) ∙ ap (λ t. piece i t (block b.kind b.closed) ∷ behindBlock ρ t E (L E m)) s
 
     -- what was found says whether the line opens one; no answer is a refusal
-    kind-found : isFound (block_of ρ i (l ∷ L E m)) ≡ not (eqb k 0)
-    unfolding block_of
+    kind-found : isFound (blockOf ρ i (l ∷ L E m)) ≡ not (eqb k 0)
+    unfolding blockOf
     kind-found = split (eqb k 0) (λ h. simp h) (λ h. simp h)
 
-    none-refused : is_refused (block_of ρ i (l ∷ L E m)) ≡ false
-    unfolding block_of
+    none-refused : isRefused (blockOf ρ i (l ∷ L E m)) ≡ false
+    unfolding blockOf
     none-refused = split (eqb k 0) (λ h. simp h) (λ h. simp h)
 
-  module _ (i n : ℕ) (a : BlockAnswer) (o : block_of ρ i (lines_of (drop n flags) (drop i text)) ≡ a) where
-    abbrev by_number : drop (n + 1) flags ≡ drop 1 (drop n flags)
-    by_number = sym (suffix-next flags n)
+  module _ (i n : ℕ) (a : BlockAnswer) (o : blockOf ρ i (linesOf (drop n flags) (drop i text)) ≡ a) where
+    abbrev by-number : drop (n + 1) flags ≡ drop 1 (drop n flags)
+    by-number = sym (suffix-next flags n)
 
-    answer-is : block_of ρ i (line_at text flags i n ∷ L (i + lineLength (drop i text)) (n + 1)) ≡ a
-    answer-is = ap (block_of ρ i) (sym (first-numbered text flags i n (n + 1) by_number)) ∙ o
+    answer-is : blockOf ρ i (lineAt text flags i n ∷ L (i + lineLength (drop i text)) (n + 1)) ≡ a
+    answer-is = ap (blockOf ρ i) (sym (first-numbered text flags i n (n + 1) by-number)) ∙ o
 
-    pub opens : not (eqb (kind_of ρ (line_at text flags i n)) 0) ≡ isFound a
-    opens = sym (kind-found i n (n + 1) by_number) ∙ ap isFound answer-is
+    pub opens : not (eqb (kindOf ρ (lineAt text flags i n)) 0) ≡ isFound a
+    opens = sym (kind-found i n (n + 1) by-number) ∙ ap isFound answer-is
 
-    pub never-refused : is_refused a ≡ false
-    never-refused = ap is_refused (sym answer-is) ∙ none-refused i n (n + 1) by_number
+    pub never-refused : isRefused a ≡ false
+    never-refused = ap isRefused (sym answer-is) ∙ none-refused i n (n + 1) by-number
 
 -- ---- from line to line until the stop
 module _ (text flags : List ℕ) (stop : ℕ) where
@@ -194,7 +194,7 @@ module _ (text flags : List ℕ) (stop : ℕ) where
         split (ltb e stop)
         (λ s.
         let o = ltb-false e (length text) (simp s at h) in
-        ap (behindBlock ρ stop e) (no_lines text flags e m (ending-out text e o)) ∙ sym (no_more ρ text flags (lineFrom text e) m (omega arith)))
+        ap (behindBlock ρ stop e) (no-lines text flags e m (ending-out text e o)) ∙ sym (no-more ρ text flags (lineFrom text e) m (omega arith)))
         (λ s. passed-by ρ stop e (linesBehind text flags e m) (ltb-false e stop s) ∙ behind-line ρ text flags e m passing.ended)
 
   -- all lines of a block, which begins at i, are passed

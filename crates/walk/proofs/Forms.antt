@@ -7,9 +7,9 @@ use lib.ListN.{length, get_or, drop}
 use lib.Seq.{drop-drop}
 use Rattle.lexical.specs.Text.{bytes, first}
 use Rattle.lexical.specs.Byte.{isLetter}
-use Rattle.lexical.proofs.Suffix.{first-in, first_out}
+use Rattle.lexical.proofs.Suffix.{first-in, first-out}
 use Rattle.rules.specs.Search.{begins}
-use Rattle.walk.specs.Closer.{isDeclaration, form_of}
+use Rattle.walk.specs.Closer.{isDeclaration, formOf}
 use Rattle.walk.specs.declared.closers.Form.TheVariants.{Comment, Instruction, Declaration, Cdata, Other}
 
 -- `<!` and the byte behind it, at an index of a text
@@ -21,31 +21,31 @@ module _ (text : List ℕ) (i : ℕ) where
   declaration-by h = ap (λ (b : Bool). b && isLetter (first (drop 2 (drop i text)))) h ∙ ap (λ s. isLetter (first s)) (drop-drop 2 i text)
 
   pub declaration-out : begins (bytes "<!") (drop i text) ≡ true → length text ≤ i + 2 → isDeclaration (drop i text) ≡ false
-  declaration-out h l = declaration-by h ∙ ap isLetter (first_out text (i + 2) l)
+  declaration-out h l = declaration-by h ∙ ap isLetter (first-out text (i + 2) l)
 
   pub declaration-in : begins (bytes "<!") (drop i text) ≡ true → i + 2 < length text → isDeclaration (drop i text) ≡ isLetter (get_or text (i + 2) 0)
   declaration-in h l = declaration-by h ∙ ap isLetter (first-in text (i + 2) l)
 
 module _ (s : List ℕ) where
-  pub form-instruction : begins (bytes "<?") s ≡ true → form_of s ≡ Instruction
-  unfolding form_of
+  pub form-instruction : begins (bytes "<?") s ≡ true → formOf s ≡ Instruction
+  unfolding formOf
   form-instruction a = rw a refl
 
   module _ (a : begins (bytes "<?") s ≡ false) where
-    pub form-comment : begins (bytes "<!--") s ≡ true → form_of s ≡ Comment
-    unfolding form_of
+    pub form-comment : begins (bytes "<!--") s ≡ true → formOf s ≡ Comment
+    unfolding formOf
     form-comment b = rw (a, b) refl
 
     module _ (b : begins (bytes "<!--") s ≡ false) where
-      pub form-cdata : begins (bytes "<![CDATA[") s ≡ true → form_of s ≡ Cdata
-      unfolding form_of
+      pub form-cdata : begins (bytes "<![CDATA[") s ≡ true → formOf s ≡ Cdata
+      unfolding formOf
       form-cdata d = rw (a, b, d) refl
 
       module _ (d : begins (bytes "<![CDATA[") s ≡ false) where
-        pub form-declaration : isDeclaration s ≡ true → form_of s ≡ Declaration
-        unfolding form_of
+        pub form-declaration : isDeclaration s ≡ true → formOf s ≡ Declaration
+        unfolding formOf
         form-declaration e = rw (a, b, d, e) refl
 
-        pub form-other : isDeclaration s ≡ false → form_of s ≡ Other
-        unfolding form_of
+        pub form-other : isDeclaration s ≡ false → formOf s ≡ Other
+        unfolding formOf
         form-other e = rw (a, b, d, e) refl

@@ -15,15 +15,15 @@ use Rattle.lexical.specs.Line.{lineEnding, lineLength, isBlank}
 use Rattle.lexical.proofs.Cases.{split}
 use Rattle.lexical.proofs.Suffix.{suffix-in, suffix-out, suffix-next}
 use Rattle.lexical.proofs.Ending.{ending-out}
-use Rattle.lexical.proofs.Run.{run_length}
-use Rattle.rules.specs.Lines.{Line, line, cutLines, flagged, lines_of}
-use Rattle.rules.specs.Block.{kind_of, extentOf, inLast, stopAfter}
+use Rattle.lexical.proofs.Run.{run-length}
+use Rattle.rules.specs.Lines.{Line, line, cutLines, flagged, linesOf}
+use Rattle.rules.specs.Block.{kindOf, extentOf, inLast, stopAfter}
 use Rattle.rules.specs.Withhold.{Piece, piece, block, marks, goesOn, inlinePieces, linePieces}
 use Rattle.rules.specs.declared.Rules.{Rules}
 use Rattle.rules.proofs.Cut.{behind, behind-none, content-length, lead-length, lineFrom, lineTo}
 use Rattle.rules.proofs.LineLaws.{contentFrom, flag-first, first-line, leadAt, next-lines}
 use Rattle.flow.proofs.OpenMeans.{nothing-opened}
-use Rattle.walk.specs.Remaining.{line_at, fromLine}
+use Rattle.walk.specs.Remaining.{lineAt, fromLine}
 
 -- ---- where a line's content ends
 run-ended : (f : ℕ → Bool) (s : List ℕ) → run f (drop (run f s) s) ≡ 0
@@ -35,7 +35,7 @@ pub line-ended : (text : List ℕ) (i : ℕ) → lineLength (drop (i + lineLengt
 line-ended text i = ap lineLength (sym (drop-drop (lineLength (drop i text)) i text)) ∙ run-ended (λ b. not (isLineEndingByte b)) (drop i text)
 
 pub line-within : (text : List ℕ) (i : ℕ) → i ≤ length text → i + lineLength (drop i text) ≤ length text
-line-within text i l = omega (arith, run_length (λ b. not (isLineEndingByte b)) (drop i text), length-drop i text)
+line-within text i l = omega (arith, run-length (λ b. not (isLineEndingByte b)) (drop i text), length-drop i text)
 
 some-ending : (x : ℕ) (s : List ℕ) → lineLength (x ∷ s) ≡ 0 → 0 < lineEnding (x ∷ s)
 unfolding run lineEnding
@@ -45,8 +45,8 @@ some-ending x s e =
     (λ r. let z : suc (lineLength s) ≡ 0 = simp (h, r) at e in absurd (omega (arith, z))))
 
 -- where it ends before the text does, a line ending stands there
-pub ending_there : (text : List ℕ) (e : ℕ) → lineLength (drop e text) ≡ 0 → e < length text → 0 < lineEnding (drop e text)
-ending_there text e h l =
+pub ending-there : (text : List ℕ) (e : ℕ) → lineLength (drop e text) ≡ 0 → e < length text → 0 < lineEnding (drop e text)
+ending-there text e h l =
     let s = suffix-in text e l in
     rw s (some-ending (get_or text e 0) (drop (e + 1) text) (rw s at h))
 
@@ -57,8 +57,8 @@ module _ (text flags : List ℕ) where
 
   -- a line and the lines behind it, m being the next line's number
   pub first-numbered : (i n m : ℕ) → drop m flags ≡ drop 1 (drop n flags)
-      → lines_of (drop n flags) (drop i text) ≡ line_at text flags i n ∷ linesBehind (i + lineLength (drop i text)) m
-  first-numbered i n m r = first-line text flags i n ∙ ap (λ t. line_at text flags i n ∷ flagged t (behind (drop (i + lineLength (drop i text)) text))) (sym r)
+      → linesOf (drop n flags) (drop i text) ≡ lineAt text flags i n ∷ linesBehind (i + lineLength (drop i text)) m
+  first-numbered i n m r = first-line text flags i n ∙ ap (λ t. lineAt text flags i n ∷ flagged t (behind (drop (i + lineLength (drop i text)) text))) (sym r)
 
   -- the next line, with the ending that leads to it
   abbrev pub ledLine : ℕ → ℕ → Line
@@ -71,9 +71,9 @@ module _ (text flags : List ℕ) where
       → linesBehind e n ≡ ledLine e n ∷ linesBehind (lineTo text e) m
   next-numbered e n m r h = next-lines text flags e n (λ z. absurd (omega (arith, z))) ∙ ap (λ t. ledLine e n ∷ flagged t (behind (drop (lineTo text e) text))) (sym r)
 
-  pub no_lines : (e n : ℕ) → lineEnding (drop e text) ≡ 0 → linesBehind e n ≡ []
+  pub no-lines : (e n : ℕ) → lineEnding (drop e text) ≡ 0 → linesBehind e n ≡ []
   unfolding flagged
-  no_lines e n z = rw (behind-none text e z)
+  no-lines e n z = rw (behind-none text e z)
 
 -- the next line as the code reads it: where it begins, and where its content ends
 module _ (text : List ℕ) (e from to : ℕ) (a : from ≡ lineFrom text e) (b : to ≡ from + lineLength (drop from text)) where
@@ -81,7 +81,7 @@ module _ (text : List ℕ) (e from to : ℕ) (a : from ≡ lineFrom text e) (b :
   read-to = b ∙ ap (λ t. t + lineLength (drop t text)) a
 
   pub farther : lineLength (drop e text) ≡ 0 → e < length text → e < to
-  farther h l = omega (arith, read-to, ending_there text e h l)
+  farther h l = omega (arith, read-to, ending-there text e h l)
 
 -- ---- the ending that leads to a line counts only in a paragraph
 stop-led : (i n f : ℕ) (e c : List ℕ) (ls : List Line) → stopAfter i n (line f e c ∷ ls) ≡ stopAfter i n (line f [] c ∷ ls)
@@ -95,9 +95,9 @@ module _ (ρ : Rules) where
   abbrev pub piecesBehind : ℕ → List Line → List Piece
   piecesBehind e ls = linePieces ρ e (marks ρ 0 false ls) ls
 
-  pub same_kind : (f : ℕ) (e c : List ℕ) → kind_of ρ (line f e c) ≡ kind_of ρ (line f [] c)
-  unfolding kind_of
-  same_kind f e c = refl
+  pub same-kind : (f : ℕ) (e c : List ℕ) → kindOf ρ (line f e c) ≡ kindOf ρ (line f [] c)
+  unfolding kindOf
+  same-kind f e c = refl
 
   same-extent : (k f : ℕ) (e c : List ℕ) (ls : List Line) → extentOf ρ k (line f e c) ls ≡ extentOf ρ k (line f [] c) ls
   unfolding extentOf
@@ -106,9 +106,9 @@ module _ (ρ : Rules) where
   led : (i j f : ℕ) (e c : List ℕ) (ls : List Line) → i + length e ≡ j + 0 → piecesBehind i (line f e c ∷ ls) ≡ piecesBehind j (line f [] c ∷ ls)
   unfolding marks linePieces
   led i j f e c ls h =
-      let k = kind_of ρ (line f [] c) in
+      let k = kindOf ρ (line f [] c) in
       let x = extentOf ρ k (line f [] c) ls in
-      rw (same_kind f e c, same-extent (kind_of ρ (line f [] c)) f e c ls)
+      rw (same-kind f e c, same-extent (kindOf ρ (line f [] c)) f e c ls)
       (split (eqb k 0)
       (λ a. split (isBlank c)
       (λ b. simp (a, b) (ap (λ t. linePieces ρ (t + length c) (marks ρ 0 false ls) ls) h))
@@ -119,14 +119,14 @@ module _ (ρ : Rules) where
 
   module _ (text flags : List ℕ) where
     -- an empty line opens no block
-    empty-kind : (f : ℕ) → kind_of ρ (line f [] []) ≡ 0
-    unfolding kind_of run
+    empty-kind : (f : ℕ) → kindOf ρ (line f [] []) ≡ 0
+    unfolding kindOf run
     empty-kind f = nothing-opened ρ f
 
     -- behind the text there are none
-    pub no_more : (i n : ℕ) → length text ≤ i → fromLine ρ text flags i n ≡ []
-    unfolding fromLine lines_of cutLines marks linePieces isBlank run flagged
-    no_more i n l =
+    pub no-more : (i n : ℕ) → length text ≤ i → fromLine ρ text flags i n ≡ []
+    unfolding fromLine linesOf cutLines marks linePieces isBlank run flagged
+    no-more i n l =
         rw (suffix-out text i l, flag-first (drop n flags) [] [] [])
         (simp (empty-kind (get_or (drop n flags) 0 0)))
 
@@ -136,10 +136,10 @@ module _ (ρ : Rules) where
     behind-line e n h =
         split (ltb e (length text))
         (λ l.
-        let some = ending_there text e h (ltb-true e (length text) l) in
+        let some = ending-there text e h (ltb-true e (length text) l) in
         ap (piecesBehind e) (next-numbered text flags e n (n + 1) (sym (suffix-next flags n)) some)
         ∙ led e (lineFrom text e) (get_or (drop n flags) 0 0) (leadAt text flags e) (contentFrom text (lineFrom text e)) (linesBehind text flags (lineTo text e) (n + 1)) (omega (arith, lead-length text e))
         ∙ ap (piecesBehind (lineFrom text e)) (sym (first-numbered text flags (lineFrom text e) n (n + 1) (sym (suffix-next flags n)))))
         (λ l.
         let o = ltb-false e (length text) l in
-        ap (piecesBehind e) (no_lines text flags e n (ending-out text e o)) ∙ sym (no_more (lineFrom text e) n (omega arith)))
+        ap (piecesBehind e) (no-lines text flags e n (ending-out text e o)) ∙ sym (no-more (lineFrom text e) n (omega arith)))

@@ -13,18 +13,18 @@ use Rattle.lexical.specs.Text.{run}
 use Rattle.lexical.specs.Name.{all}
 use Rattle.lexical.proofs.Cases.{split, clash}
 use Rattle.lexical.proofs.Suffix.{suffix-in, suffix-out, suffix-next}
-use Rattle.lexical.proofs.Run.{run_length}
+use Rattle.lexical.proofs.Run.{run-length}
 use Rattle.rules.specs.Inline.{Read, takes, lacks, readInline}
 use Rattle.rules.specs.Scan.{InlineAnswer, foundInline, noInline, refusedInline, inlineAnswer, inlineAt}
 use Rattle.rules.specs.Withhold.{piece, inline, byRead, inlinePieces}
 use Rattle.rules.specs.declared.Rules.{Rules}
 use Rattle.runs.proofs.Less.{ReadMost, read-most}
-use Rattle.walk.specs.Closer.{Known, form_of, isAhead, without}
+use Rattle.walk.specs.Closer.{Known, formOf, isAhead, without}
 use Rattle.walk.specs.Remaining.{fromIndex, Took, Lacked, Onward}
 use Rattle.walk.specs.declared.closers.Closers.{Closers}
 use Rattle.walk.proofs.Ahead.{known-drop, unread, forgone}
 use Rattle.walk.proofs.Rest.{read-rest}
-use Rattle.walk.proofs.Paragraphs.{no_open, skip}
+use Rattle.walk.proofs.Paragraphs.{noOpen, skip}
 
 run-all : (f : ℕ → Bool) (s : List ℕ) → all f (take (run f s) s) ≡ true
 unfolding run all
@@ -36,15 +36,15 @@ stopOf (foundInline stop carry) = stop
 stopOf (noInline carry) = 0
 stopOf (refusedInline n carry) = 0
 
-abbrev is_none : InlineAnswer → Bool
-is_none (foundInline stop carry) = false
-is_none (noInline carry) = true
-is_none (refusedInline n carry) = false
+abbrev isNone : InlineAnswer → Bool
+isNone (foundInline stop carry) = false
+isNone (noInline carry) = true
+isNone (refusedInline n carry) = false
 
-abbrev is_refused : InlineAnswer → Bool
-is_refused (foundInline stop carry) = false
-is_refused (noInline carry) = false
-is_refused (refusedInline n carry) = true
+abbrev isRefused : InlineAnswer → Bool
+isRefused (foundInline stop carry) = false
+isRefused (noInline carry) = false
+isRefused (refusedInline n carry) = true
 
 module _ (ρ : Rules) where
   -- more pieces than bytes are never counted
@@ -56,22 +56,22 @@ module _ (ρ : Rules) where
   enough (suc n) zero i [] a b = refl
   enough (suc n) zero i (x ∷ s) a b = absurd (omega arith)
   enough (suc n) (suc m) i [] a b = refl
-  enough (suc n) (suc m) i (x ∷ s) a b = by_read (λ j t l. enough n m j t l) (readInline ρ 0 (x ∷ s)) (read-most ρ x s)
+  enough (suc n) (suc m) i (x ∷ s) a b = by-read (λ j t l. enough n m j t l) (readInline ρ 0 (x ∷ s)) (read-most ρ x s)
     where
-      by_read : ((j : ℕ) (t : List ℕ) → length t ≤ n → length t ≤ m → inlinePieces ρ n j t ≡ inlinePieces ρ m j t) → (r : Read) → ReadMost s r
+      by-read : ((j : ℕ) (t : List ℕ) → length t ≤ n → length t ≤ m → inlinePieces ρ n j t ≡ inlinePieces ρ m j t) → (r : Read) → ReadMost s r
           → byRead r (λ _. inlinePieces ρ n (suc i) s) (λ t. piece i (i + (length (x ∷ s) - length t)) inline ∷ inlinePieces ρ n (i + (length (x ∷ s) - length t)) t)
           ≡ byRead r (λ _. inlinePieces ρ m (suc i) s) (λ t. piece i (i + (length (x ∷ s) - length t)) inline ∷ inlinePieces ρ m (i + (length (x ∷ s) - length t)) t)
-      by_read ih (takes t k) h = ap (λ ps. piece i (i + (length (x ∷ s) - length t)) inline ∷ ps) (ih (i + (length (x ∷ s) - length t)) t (omega arith) (omega arith))
-      by_read ih (lacks k) h = ih (suc i) s (omega arith) (omega arith)
+      by-read ih (takes t k) h = ap (λ ps. piece i (i + (length (x ∷ s) - length t)) inline ∷ ps) (ih (i + (length (x ∷ s) - length t)) t (omega arith) (omega arith))
+      by-read ih (lacks k) h = ih (suc i) s (omega arith) (omega arith)
 
   module _ (text : List ℕ) where
     -- at the end
-    pub no_pieces : (i : ℕ) → length text ≤ i → fromIndex ρ text i ≡ []
+    pub no-pieces : (i : ℕ) → length text ≤ i → fromIndex ρ text i ≡ []
     unfolding inlinePieces
-    no_pieces i l = rw (suffix-out text i l) refl
+    no-pieces i l = rw (suffix-out text i l) refl
 
     -- up to the next `<`
-    pub skipped : (i j : ℕ) → all no_open (take (j - i) (drop i text)) ≡ true → i ≤ j → j ≤ length text → fromIndex ρ text i ≡ fromIndex ρ text j
+    pub skipped : (i j : ℕ) → all noOpen (take (j - i) (drop i text)) ≡ true → i ≤ j → j ≤ length text → fromIndex ρ text i ≡ fromIndex ρ text j
     skipped i j h a b =
         let u = take (j - i) (drop i text) in
         let is : u ++ drop (j - i) (drop i text) ≡ drop i text = take-append-drop (j - i) (drop i text) in
@@ -83,16 +83,16 @@ module _ (ρ : Rules) where
         ∙ ap (λ s. inlinePieces ρ (length s) (i + length u) s) t
         ∙ ap (λ n. inlinePieces ρ (length (drop j text)) n (drop j text)) l
 
-    pub next-opening : (i j : ℕ) → j ≡ i + run no_open (drop i text) → fromIndex ρ text i ≡ fromIndex ρ text j
+    pub next-opening : (i j : ℕ) → j ≡ i + run noOpen (drop i text) → fromIndex ρ text i ≡ fromIndex ρ text j
     next-opening i j e =
         split (leb i (length text))
         (λ h.
         let a = leb-true i (length text) h in
-        let m : j - i ≡ run no_open (drop i text) = omega (arith, e) in
-        skipped i j (ap (λ n. all no_open (take n (drop i text))) m ∙ run-all no_open (drop i text)) (omega (arith, e)) (omega (arith, a, e, run_length no_open (drop i text), length-drop i text)))
+        let m : j - i ≡ run noOpen (drop i text) = omega (arith, e) in
+        skipped i j (ap (λ n. all noOpen (take n (drop i text))) m ∙ run-all noOpen (drop i text)) (omega (arith, e)) (omega (arith, a, e, run-length noOpen (drop i text), length-drop i text)))
         (λ h.
         let a = leb-false i (length text) h in
-        no_pieces i (omega (arith, a)) ∙ sym (no_pieces j (omega (arith, a, e))))
+        no-pieces i (omega (arith, a)) ∙ sym (no-pieces j (omega (arith, a, e))))
 
     module _ (i : ℕ) (l : i < length text) where
       abbrev x : ℕ
@@ -122,9 +122,9 @@ module _ (ρ : Rules) where
       no-piece c lacked = unrolled (lacks lacked.carry) lacked.is ∙ (let z : suc i ≡ i + 1 = omega arith in ap (λ j. inlinePieces ρ (length s) j s) z)
 
       -- ---- by the answer of the scan
-      took_by : (stop carry : ℕ) (r : Read) → readInline ρ 0 (drop i text) ≡ r → foundInline stop carry ≡ inlineAnswer (length text) r → Took ρ text i stop
-      took_by stop carry (lacks k) e h = clash true refl (sym (ap is_none h))
-      took_by stop carry (takes t k) e h =
+      took-by : (stop carry : ℕ) (r : Read) → readInline ρ 0 (drop i text) ≡ r → foundInline stop carry ≡ inlineAnswer (length text) r → Took ρ text i stop
+      took-by stop carry (lacks k) e h = clash true refl (sym (ap isNone h))
+      took-by stop carry (takes t k) e h =
           let a : stop ≡ length text - length t = ap stopOf h in
           let most : length t ≤ length s = subst (ReadMost s) (ap (readInline ρ 0) (sym here) ∙ e) (read-most ρ x s) in
           let b : i + (length (drop i text) - length t) ≡ stop = omega (arith, a, length-drop i text, length-drop (i + 1) text, most) in
@@ -137,28 +137,28 @@ module _ (ρ : Rules) where
 
       pub took : (stop carry : ℕ) → foundInline stop carry ≡ inlineAt ρ text i 0 → Took ρ text i stop
       unfolding inlineAt
-      took stop carry h = took_by stop carry (readInline ρ 0 (drop i text)) refl h
+      took stop carry h = took-by stop carry (readInline ρ 0 (drop i text)) refl h
 
       lacked-by : (c : Closers) (carry : ℕ) (r : Read) → readInline ρ 0 (drop i text) ≡ r → noInline carry ≡ inlineAnswer (length text) r → Known c (drop i text)
-          → Lacked ρ text i (without c (form_of (drop i text)))
-      lacked-by c carry (takes t k) e h known = clash true refl (ap is_none h)
+          → Lacked ρ text i (without c (formOf (drop i text)))
+      lacked-by c carry (takes t k) e h known = clash true refl (ap isNone h)
       lacked-by c carry (lacks k) e h known =
-          record { carry = k; is = e; known = subst (Known (without c (form_of (drop i text)))) (suffix-next text i) (forgone ρ c (drop i text) k known e) }
+          record { carry = k; is = e; known = subst (Known (without c (formOf (drop i text)))) (suffix-next text i) (forgone ρ c (drop i text) k known e) }
 
-      pub lacked : (c : Closers) (carry : ℕ) → noInline carry ≡ inlineAt ρ text i 0 → Known c (drop i text) → Lacked ρ text i (without c (form_of (drop i text)))
+      pub lacked : (c : Closers) (carry : ℕ) → noInline carry ≡ inlineAt ρ text i 0 → Known c (drop i text) → Lacked ρ text i (without c (formOf (drop i text)))
       unfolding inlineAt
       lacked c carry h known = lacked-by c carry (readInline ρ 0 (drop i text)) refl h known
 
       pub none-refused : (n carry : ℕ) → refusedInline n carry ≡ inlineAt ρ text i 0 → ⊥
       unfolding inlineAt
-      none-refused n carry h = by_read (readInline ρ 0 (drop i text)) h
+      none-refused n carry h = by-read (readInline ρ 0 (drop i text)) h
         where
-          by_read : (r : Read) → refusedInline n carry ≡ inlineAnswer (length text) r → ⊥
-          by_read (takes t k) h = clash true refl (sym (ap is_refused (sym h)))
-          by_read (lacks k) h = clash true refl (sym (ap is_refused (sym h)))
+          by-read : (r : Read) → refusedInline n carry ≡ inlineAnswer (length text) r → ⊥
+          by-read (takes t k) h = clash true refl (sym (ap isRefused (sym h)))
+          by-read (lacks k) h = clash true refl (sym (ap isRefused (sym h)))
 
       -- what is not read would have been none
-      pub not-read : (c : Closers) → Known c (drop i text) → isAhead c (form_of (drop i text)) ≡ false → Lacked ρ text i c
+      pub not-read : (c : Closers) → Known c (drop i text) → isAhead c (formOf (drop i text)) ≡ false → Lacked ρ text i c
       not-read c known h = record { carry = 0; is = unread ρ c (drop i text) known h; known = subst (Known c) (suffix-next text i) (known-drop known 1) }
 
 -- ---- from `<` to `<`: no piece lies between the index and the next `<`
@@ -167,11 +167,11 @@ module _ (ρ : Rules) (text : List ℕ) (index : ℕ) where
     pub same : fromIndex ρ text index ≡ fromIndex ρ text start
     pub known : Known c (drop start text)
 
-  pub to-opening : (i j : ℕ) (c : Closers) → fromIndex ρ text index ≡ fromIndex ρ text i → Known c (drop i text) → j ≡ i + run no_open (drop i text) → AtOpening j c
+  pub to-opening : (i j : ℕ) (c : Closers) → fromIndex ρ text index ≡ fromIndex ρ text i → Known c (drop i text) → j ≡ i + run noOpen (drop i text) → AtOpening j c
   to-opening i j c e k o =
       record {
         same = e ∙ next-opening ρ text i j o;
-        known = subst (Known c) (drop-drop (run no_open (drop i text)) i text ∙ ap (λ n. drop n text) (sym o)) (known-drop k (run no_open (drop i text)));
+        known = subst (Known c) (drop-drop (run noOpen (drop i text)) i text ∙ ap (λ n. drop n text) (sym o)) (known-drop k (run noOpen (drop i text)));
       }
 
   module _ (start : ℕ) (c : Closers) (at : AtOpening start c) (l : start < length text) where
@@ -183,8 +183,8 @@ module _ (ρ : Rules) (text : List ℕ) (index : ℕ) where
           known = subst (Known c) (drop-drop (stop - start) start text ∙ ap (λ n. drop n text) e) (known-drop at.known (stop - start));
         }
 
-    pub past-opening : (d : Closers) → Lacked ρ text start d → (j : ℕ) → j ≡ start + 1 + run no_open (drop (start + 1) text) → AtOpening j d
+    pub past-opening : (d : Closers) → Lacked ρ text start d → (j : ℕ) → j ≡ start + 1 + run noOpen (drop (start + 1) text) → AtOpening j d
     past-opening d k j o = to-opening (start + 1) j d (at.same ∙ no-piece ρ text start l d k) k.known o
 
-  pub none_left : (start : ℕ) (c : Closers) → AtOpening start c → length text ≤ start → fromIndex ρ text index ≡ []
-  none_left start c at l = at.same ∙ no_pieces ρ text start l
+  pub none-left : (start : ℕ) (c : Closers) → AtOpening start c → length text ≤ start → fromIndex ρ text index ≡ []
+  none-left start c at l = at.same ∙ no-pieces ρ text start l

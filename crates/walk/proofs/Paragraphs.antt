@@ -13,24 +13,24 @@ use Rattle.lexical.specs.Text.{byte, first, run}
 use Rattle.lexical.specs.Byte.{isLineEndingByte, isSpaceOrTab}
 use Rattle.lexical.specs.Name.{all}
 use Rattle.lexical.specs.Line.{lineEnding, lineLength, isBlank}
-use Rattle.lexical.proofs.Cases.{split, clash, and_left, and_right, or_left, or_right}
+use Rattle.lexical.proofs.Cases.{split, clash, and-left, and-right, or-left, or-right}
 use Rattle.lexical.proofs.Suffix.{suffix-next, drop-take, parts}
 use Rattle.lexical.proofs.Ending.{ending-out}
 use Rattle.rules.specs.Lines.{Line, line}
-use Rattle.rules.specs.Block.{kind_of}
+use Rattle.rules.specs.Block.{kindOf}
 use Rattle.rules.specs.Withhold.{Piece, marks, goesOn, inlinePieces, linePieces}
 use Rattle.rules.specs.declared.Rules.{Rules}
 use Rattle.rules.proofs.Cut.{content-length, lineFrom, lineTo, to-within, blank-apart}
 use Rattle.rules.proofs.LineLaws.{contentFrom, leadAt}
-use Rattle.walk.specs.Remaining.{is_plain, line_at, endsParagraph, fromLine, fromIndex, ParagraphEnd}
+use Rattle.walk.specs.Remaining.{isPlain, lineAt, endsParagraph, fromLine, fromIndex, ParagraphEnd}
 use Rattle.walk.proofs.Ahead.{not-open}
-use Rattle.walk.proofs.FromLine.{ending_there, line-ended, line-within, linesBehind, ledLine, led-to, first-numbered, next-numbered, no_lines, read-to, piecesBehind, same_kind, no_more, behind-line}
+use Rattle.walk.proofs.FromLine.{ending-there, line-ended, line-within, linesBehind, ledLine, led-to, first-numbered, next-numbered, no-lines, read-to, piecesBehind, same-kind, no-more, behind-line}
 
 -- ---- bytes without `<`
-abbrev pub no_open : ℕ → Bool
-no_open b = not (eqb b (byte "<"))
+abbrev pub noOpen : ℕ → Bool
+noOpen b = not (eqb b (byte "<"))
 
-lead-closed : (s : List ℕ) → all no_open (take (lineEnding s) s) ≡ true
+lead-closed : (s : List ℕ) → all noOpen (take (lineEnding s) s) ≡ true
 unfolding lineEnding all
 lead-closed [] = refl
 lead-closed (x ∷ []) = split (eqb x (byte "\n")) (λ h. rw (eqb-true x (byte "\n") h)) (λ h. split (eqb x (byte "\r")) (λ r. rw (eqb-true x (byte "\r") r)) (λ r. simp (h, r)))
@@ -40,15 +40,15 @@ lead-closed (x ∷ y ∷ s) =
     (λ r. rw (eqb-true x (byte "\r") r) (split (eqb y (byte "\n")) (λ k. rw (eqb-true y (byte "\n") k)) (λ k. simp k)))
     (λ r. simp (h, r)))
 
-pub plain_closed : (s : List ℕ) → all no_open (take (run is_plain s) s) ≡ true
+pub plain-closed : (s : List ℕ) → all noOpen (take (run isPlain s) s) ≡ true
 unfolding run all
-plain_closed [] = refl
-plain_closed (x ∷ s) =
+plain-closed [] = refl
+plain-closed (x ∷ s) =
     split (eqb x (byte "<")) (λ h. simp h)
-    (λ h. split (isLineEndingByte x) (λ e. simp (h, e)) (λ e. simp (h, e) (plain_closed s)))
+    (λ h. split (isLineEndingByte x) (λ e. simp (h, e)) (λ e. simp (h, e) (plain-closed s)))
 
 -- a line whose first `<` or ending is no `<`
-pub plain-length : (s : List ℕ) → (first (drop (run is_plain s) s) ≡ byte "<" → ⊥) → run is_plain s ≡ lineLength s
+pub plain-length : (s : List ℕ) → (first (drop (run isPlain s) s) ≡ byte "<" → ⊥) → run isPlain s ≡ lineLength s
 unfolding run
 plain-length [] h = refl
 plain-length (x ∷ s) h =
@@ -57,13 +57,13 @@ plain-length (x ∷ s) h =
 
 module _ (ρ : Rules) where
   -- they have no pieces
-  pub skip : (i : ℕ) (u t : List ℕ) → all no_open u ≡ true → inlinePieces ρ (length (u ++ t)) i (u ++ t) ≡ inlinePieces ρ (length t) (i + length u) t
+  pub skip : (i : ℕ) (u t : List ℕ) → all noOpen u ≡ true → inlinePieces ρ (length (u ++ t)) i (u ++ t) ≡ inlinePieces ρ (length t) (i + length u) t
   unfolding inlinePieces all
   skip i [] t h = let z : i + 0 ≡ i = omega arith in rw z refl
   skip i (x ∷ u) t h =
-      let e : eqb x (byte "<") ≡ false = not-true (eqb x (byte "<")) (and_left (no_open x) (all no_open u) h) in
+      let e : eqb x (byte "<") ≡ false = not-true (eqb x (byte "<")) (and-left (noOpen x) (all noOpen u) h) in
       let z : suc i + length u ≡ i + suc (length u) = omega arith in
-      rw (not-open ρ x (u ++ t) e) (skip (suc i) u t (and_right (no_open x) (all no_open u) h) ∙ ap (λ n. inlinePieces ρ (length t) n t) z)
+      rw (not-open ρ x (u ++ t) e) (skip (suc i) u t (and-right (noOpen x) (all noOpen u) h) ∙ ap (λ n. inlinePieces ρ (length t) n t) z)
 
   -- ---- a line and the lines behind it
   module _ (e : ℕ) (l : Line) (ls : List Line) where
@@ -73,46 +73,46 @@ module _ (ρ : Rules) where
     abbrev end : ℕ
     end = e + length l.lead + length l.content
 
-    blank-line : kind_of ρ l ≡ 0 → isBlank l.content ≡ true → piecesBehind ρ e (l ∷ ls) ≡ piecesBehind ρ end ls
+    blank-line : kindOf ρ l ≡ 0 → isBlank l.content ≡ true → piecesBehind ρ e (l ∷ ls) ≡ piecesBehind ρ end ls
     unfolding marks linePieces
     blank-line a b = rw (a, b) refl
 
-    text-line : kind_of ρ l ≡ 0 → isBlank l.content ≡ false
+    text-line : kindOf ρ l ≡ 0 → isBlank l.content ≡ false
         → piecesBehind ρ e (l ∷ ls) ≡ inlinePieces ρ (length text-on) (e + length l.lead) text-on ++ linePieces ρ end (marks ρ 0 true ls) ls
     unfolding marks linePieces
     text-line a b = rw (a, b) refl
 
     -- in a paragraph: it goes on with the line, or ends before it
-    on-text : kind_of ρ l ≡ 0 → isBlank l.content ≡ false → goesOn (marks ρ 0 true (l ∷ ls)) (l ∷ ls) ≡ l.lead ++ text-on
+    on-text : kindOf ρ l ≡ 0 → isBlank l.content ≡ false → goesOn (marks ρ 0 true (l ∷ ls)) (l ∷ ls) ≡ l.lead ++ text-on
     unfolding marks goesOn
     on-text a b = rw (a, b) refl
 
-    on-pieces : kind_of ρ l ≡ 0 → isBlank l.content ≡ false → linePieces ρ e (marks ρ 0 true (l ∷ ls)) (l ∷ ls) ≡ linePieces ρ end (marks ρ 0 true ls) ls
+    on-pieces : kindOf ρ l ≡ 0 → isBlank l.content ≡ false → linePieces ρ e (marks ρ 0 true (l ∷ ls)) (l ∷ ls) ≡ linePieces ρ end (marks ρ 0 true ls) ls
     unfolding marks linePieces
     on-pieces a b = rw (a, b) refl
 
     end-marks : endsParagraph ρ l ≡ true → marks ρ 0 true (l ∷ ls) ≡ marks ρ 0 false (l ∷ ls)
     unfolding marks
     end-marks h =
-        split (eqb (kind_of ρ l) 0)
+        split (eqb (kindOf ρ l) 0)
         (λ a. split (isBlank l.content) (λ b. simp (a, b)) (λ b. let z : false ≡ true = simp (a, b) at h in clash true refl (sym z)))
         (λ a. simp a)
 
     end-text : endsParagraph ρ l ≡ true → goesOn (marks ρ 0 true (l ∷ ls)) (l ∷ ls) ≡ []
     unfolding marks goesOn
     end-text h =
-        split (eqb (kind_of ρ l) 0)
+        split (eqb (kindOf ρ l) 0)
         (λ a. split (isBlank l.content) (λ b. simp (a, b)) (λ b. let z : false ≡ true = simp (a, b) at h in clash true refl (sym z)))
         (λ a. simp a)
 
     -- a paragraph that goes on with the line may as well begin with it
 
-    pub begin : all no_open l.lead ≡ true
+    pub begin : all noOpen l.lead ≡ true
         → inlinePieces ρ (length (goesOn (marks ρ 0 true (l ∷ ls)) (l ∷ ls))) e (goesOn (marks ρ 0 true (l ∷ ls)) (l ∷ ls)) ++ linePieces ρ e (marks ρ 0 true (l ∷ ls)) (l ∷ ls)
         ≡ piecesBehind ρ e (l ∷ ls)
     unfolding marks goesOn linePieces inlinePieces
     begin h =
-        split (eqb (kind_of ρ l) 0)
+        split (eqb (kindOf ρ l) 0)
         (λ a. split (isBlank l.content) (λ b. simp (a, b)) (λ b. simp (a, b) (ap (λ ps. ps ++ linePieces ρ (e + length l.lead + length l.content) (marks ρ 0 true ls) ls) (skip e l.lead text-on h))))
         (λ a. simp a)
 
@@ -125,9 +125,9 @@ blank-content (x ∷ s) =
     (λ e. split (isSpaceOrTab x) (λ b. clash (isLineEndingByte x) e (blank-apart x b)) (λ b. simp (e, b)))
     (λ e. split (isSpaceOrTab x) (λ b. simp (e, b) (blank-content s)) (λ b. simp (e, b)))
 
-pub ends_by : (ρ : Rules) (text flags : List ℕ) (i n : ℕ) (b f : Bool) → isBlank (drop i text) ≡ b → not (eqb (kind_of ρ (line_at text flags i n)) 0) ≡ f
-    → endsParagraph ρ (line_at text flags i n) ≡ (b || f)
-ends_by ρ text flags i n b f h k = ap (λ t. t || not (eqb (kind_of ρ (line_at text flags i n)) 0)) (blank-content (drop i text) ∙ h) ∙ ap (λ t. b || t) k
+pub ends-by : (ρ : Rules) (text flags : List ℕ) (i n : ℕ) (b f : Bool) → isBlank (drop i text) ≡ b → not (eqb (kindOf ρ (lineAt text flags i n)) 0) ≡ f
+    → endsParagraph ρ (lineAt text flags i n) ≡ (b || f)
+ends-by ρ text flags i n b f h k = ap (λ t. t || not (eqb (kindOf ρ (lineAt text flags i n)) 0)) (blank-content (drop i text) ∙ h) ∙ ap (λ t. b || t) k
 
 module _ (ρ : Rules) (text flags : List ℕ) where
   abbrev L : ℕ → ℕ → List Line
@@ -144,10 +144,10 @@ module _ (ρ : Rules) (text flags : List ℕ) where
   both e ls = inlinePieces ρ (length (goesOn (marks ρ 0 true ls) ls)) e (goesOn (marks ρ 0 true ls) ls) ++ linePieces ρ e (marks ρ 0 true ls) ls
 
   over : (e n : ℕ) → length text ≤ e → L e n ≡ []
-  over e n l = no_lines text flags e n (ending-out text e l)
+  over e n l = no-lines text flags e n (ending-out text e l)
 
   next : (e n m : ℕ) → drop m flags ≡ drop 1 (drop n flags) → lineLength (drop e text) ≡ 0 → e < length text → L e n ≡ ledLine text flags e n ∷ L (lineTo text e) m
-  next e n m r h l = next-numbered text flags e n m r (ending_there text e h l)
+  next e n m r h l = next-numbered text flags e n m r (ending-there text e h l)
 
   restart : (e n : ℕ) → lineLength (drop e text) ≡ 0 → both e (L e n) ≡ fromLine ρ text flags (lineFrom text e) n
   unfolding marks goesOn linePieces inlinePieces
@@ -158,10 +158,10 @@ module _ (ρ : Rules) (text flags : List ℕ) where
       ap (both e) k ∙ begin ρ e (ledLine text flags e n) (L (lineTo text e) (n + 1)) (lead-closed (drop e text)) ∙ ap (piecesBehind ρ e) (sym k) ∙ behind-line ρ text flags e n h)
       (λ l.
       let o = ltb-false e (length text) l in
-      ap (both e) (over e n o) ∙ sym (no_more ρ text flags (lineFrom text e) n (omega arith)))
+      ap (both e) (over e n o) ∙ sym (no-more ρ text flags (lineFrom text e) n (omega arith)))
 
   -- ---- the first line
-  module _ (i n m : ℕ) (r : drop m flags ≡ drop 1 (drop n flags)) (none : kind_of ρ (line_at text flags i n) ≡ 0) where
+  module _ (i n m : ℕ) (r : drop m flags ≡ drop 1 (drop n flags)) (none : kindOf ρ (lineAt text flags i n) ≡ 0) where
     abbrev E : ℕ
     E = i + lineLength (drop i text)
 
@@ -175,7 +175,7 @@ module _ (ρ : Rules) (text flags : List ℕ) where
     unfolding fromLine
     blank-first b =
         ap (piecesBehind ρ i) (first-numbered text flags i n m r)
-        ∙ blank-line ρ i (line_at text flags i n) (L E m) none b
+        ∙ blank-line ρ i (lineAt text flags i n) (L E m) none b
         ∙ ap (λ t. piecesBehind ρ t (L E m)) content-end
         ∙ behind-line ρ text flags E m (line-ended text i)
 
@@ -185,17 +185,17 @@ module _ (ρ : Rules) (text flags : List ℕ) where
         let z : i + 0 ≡ i = omega arith in
         let P = c ++ onward E m in
         ap (piecesBehind ρ i) (first-numbered text flags i n m r)
-        ∙ text-line ρ i (line_at text flags i n) (L E m) none b
+        ∙ text-line ρ i (lineAt text flags i n) (L E m) none b
         ∙ ap (λ t. inlinePieces ρ (length P) t P ++ linePieces ρ (i + 0 + length c) (marks ρ 0 true (L E m)) (L E m)) z
         ∙ ap (λ t. inlinePieces ρ (length P) i P ++ linePieces ρ t (marks ρ 0 true (L E m)) (L E m)) content-end
 
     -- a line without `<` has no pieces
-    pub plain-line : (at : ℕ) → at ≡ i + run is_plain (drop i text) → (first (drop at text) ≡ byte "<" → ⊥)
+    pub plain-line : (at : ℕ) → at ≡ i + run isPlain (drop i text) → (first (drop at text) ≡ byte "<" → ⊥)
         → fromLine ρ text flags i n ≡ fromLine ρ text flags (lineFrom text at) m
     plain-line at o h =
         let s = drop i text in
-        let plain : run is_plain s ≡ lineLength s = plain-length s (λ f. h (ap (λ t. first (drop t text)) o ∙ ap first (sym (drop-drop (run is_plain s) i text)) ∙ f)) in
-        let closed : all no_open c ≡ true = ap (λ t. all no_open (take t (drop i text))) (sym plain) ∙ plain_closed (drop i text) in
+        let plain : run isPlain s ≡ lineLength s = plain-length s (λ f. h (ap (λ t. first (drop t text)) o ∙ ap first (sym (drop-drop (run isPlain s) i text)) ∙ f)) in
+        let closed : all noOpen c ≡ true = ap (λ t. all noOpen (take t (drop i text))) (sym plain) ∙ plain-closed (drop i text) in
         let ends : E ≡ at = omega (arith, o, plain) in
         let e : i + length c ≡ E = omega (arith, content-length (drop i text)) in
         split (isBlank c) (λ b. blank-first b)
@@ -234,8 +234,8 @@ module _ (ρ : Rules) (text flags : List ℕ) where
       follows : L stop m ≡ following ∷ L to q
       follows = next stop m q r along.ended l
 
-      same : endsParagraph ρ following ≡ endsParagraph ρ (line_at text flags from m)
-      same = ap (λ k. isBlank (contentFrom text from) || not (eqb k 0)) (same_kind ρ (get_or (drop m flags) 0 0) (leadAt text flags stop) (contentFrom text from))
+      same : endsParagraph ρ following ≡ endsParagraph ρ (lineAt text flags from m)
+      same = ap (λ k. isBlank (contentFrom text from) || not (eqb k 0)) (same-kind ρ (get_or (drop m flags) 0 0) (leadAt text flags stop) (contentFrom text from))
 
       longer : (X : List ℕ) → take (stop - E) (drop E text) ++ (leadAt text flags stop ++ (contentFrom text from ++ X)) ≡ take (to - E) (drop E text) ++ X
       longer X =
@@ -250,11 +250,11 @@ module _ (ρ : Rules) (text flags : List ℕ) where
           ∙ ap (λ t. t ++ X) (parts E stop to text along.from (omega arith))
 
       -- one line more
-      along-on : endsParagraph ρ (line_at text flags from m) ≡ false → Along E n to q
+      along-on : endsParagraph ρ (lineAt text flags from m) ≡ false → Along E n to q
       along-on h =
           let g = same ∙ h in
-          let b = or_left (isBlank (contentFrom text from)) (not (eqb (kind_of ρ following) 0)) g in
-          let z : kind_of ρ following ≡ 0 = eqb-true (kind_of ρ following) 0 (not-false (eqb (kind_of ρ following) 0) (or_right (isBlank (contentFrom text from)) (not (eqb (kind_of ρ following) 0)) g)) in
+          let b = or-left (isBlank (contentFrom text from)) (not (eqb (kindOf ρ following) 0)) g in
+          let z : kindOf ρ following ≡ 0 = eqb-true (kindOf ρ following) 0 (not-false (eqb (kindOf ρ following) 0) (or-right (isBlank (contentFrom text from)) (not (eqb (kindOf ρ following) 0)) g)) in
           record {
             from = omega (arith, along.from);
             to = to-within text stop along.to;
@@ -263,10 +263,10 @@ module _ (ρ : Rules) (text flags : List ℕ) where
             others-are = along.others-are ∙ ap (λ ls. linePieces ρ stop (marks ρ 0 true ls) ls) follows ∙ on-pieces ρ stop following (L to q) z b ∙ ap (λ t. linePieces ρ t (marks ρ 0 true (L to q)) (L to q)) (led-to text flags stop m);
           }
 
-      no_text : endsParagraph ρ (line_at text flags from m) ≡ true → onward stop m ≡ []
-      no_text h = ap (λ ls. goesOn (marks ρ 0 true ls) ls) follows ∙ end-text ρ stop following (L to q) (same ∙ h)
+      no-text : endsParagraph ρ (lineAt text flags from m) ≡ true → onward stop m ≡ []
+      no-text h = ap (λ ls. goesOn (marks ρ 0 true ls) ls) follows ∙ end-text ρ stop following (L to q) (same ∙ h)
 
-      no-more-lines : endsParagraph ρ (line_at text flags from m) ≡ true → others stop m ≡ fromLine ρ text flags from m
+      no-more-lines : endsParagraph ρ (lineAt text flags from m) ≡ true → others stop m ≡ fromLine ρ text flags from m
       no-more-lines h =
           ap (λ ls. linePieces ρ stop (marks ρ 0 true ls) ls) follows
           ∙ ap (λ ms. linePieces ρ stop ms (following ∷ L to q)) (end-marks ρ stop following (L to q) (same ∙ h))
@@ -275,9 +275,9 @@ module _ (ρ : Rules) (text flags : List ℕ) where
 
     -- the next line as the code reads it
     pub along-next : (from to : ℕ) → from ≡ lineFrom text stop → to ≡ from + lineLength (drop from text) → stop < length text → (q : ℕ) → drop q flags ≡ drop 1 (drop m flags)
-        → endsParagraph ρ (line_at text flags from m) ≡ false → Along E n to q
+        → endsParagraph ρ (lineAt text flags from m) ≡ false → Along E n to q
     along-next from to a b l q r h =
-        subst (λ t. Along E n t q) (sym (read-to text stop from to a b)) (along-on q r l (ap (λ t. endsParagraph ρ (line_at text flags t m)) (sym a) ∙ h))
+        subst (λ t. Along E n t q) (sym (read-to text stop from to a b)) (along-on q r l (ap (λ t. endsParagraph ρ (lineAt text flags t m)) (sym a) ∙ h))
 
   -- ---- the whole paragraph, whose first line stands at i
   module _ (i k n stop m : ℕ) (r : drop n flags ≡ drop 1 (drop k flags)) (along : Along (i + lineLength (drop i text)) n stop m) where
@@ -293,7 +293,7 @@ module _ (ρ : Rules) (text flags : List ℕ) where
         ∙ parts i first-end stop text (omega arith) along.from
         ∙ sym (drop-take i stop text)
 
-    whole : kind_of ρ (line_at text flags i k) ≡ 0 → isBlank (contentFrom text i) ≡ false → onward stop m ≡ [] → others stop m ≡ fromLine ρ text flags (lineFrom text stop) m
+    whole : kindOf ρ (lineAt text flags i k) ≡ 0 → isBlank (contentFrom text i) ≡ false → onward stop m ≡ [] → others stop m ≡ fromLine ρ text flags (lineFrom text stop) m
         → fromLine ρ text flags i k ≡ fromIndex ρ (take stop text) i ++ fromLine ρ text flags (lineFrom text stop) m
     whole none b e o =
         text-first i k n r none b
@@ -301,22 +301,22 @@ module _ (ρ : Rules) (text flags : List ℕ) where
         ∙ ap (λ ps. fromIndex ρ (take stop text) i ++ ps) (along.others-are ∙ o)
 
     -- it ends before a line that is none of it, or with the text
-    pub ends-before : (from : ℕ) → from ≡ lineFrom text stop → stop < length text → endsParagraph ρ (line_at text flags from m) ≡ true
+    pub ends-before : (from : ℕ) → from ≡ lineFrom text stop → stop < length text → endsParagraph ρ (lineAt text flags from m) ≡ true
         → ParagraphEnd ρ text flags i k (record { stop = stop; line = m })
     ends-before from a l h =
         let r = sym (suffix-next flags m) in
-        let g = ap (λ t. endsParagraph ρ (line_at text flags t m)) (sym a) ∙ h in
+        let g = ap (λ t. endsParagraph ρ (lineAt text flags t m)) (sym a) ∙ h in
         record {
           from = along.from;
           to = along.to;
-          pieces = λ none b. whole none b (no_text first-end n stop m along (m + 1) r l g) (no-more-lines first-end n stop m along (m + 1) r l g);
+          pieces = λ none b. whole none b (no-text first-end n stop m along (m + 1) r l g) (no-more-lines first-end n stop m along (m + 1) r l g);
         }
 
-    pub ends_with : length text ≤ stop → ParagraphEnd ρ text flags i k (record { stop = stop; line = m })
+    pub ends-with : length text ≤ stop → ParagraphEnd ρ text flags i k (record { stop = stop; line = m })
     unfolding marks goesOn linePieces
-    ends_with l =
+    ends-with l =
         record {
           from = along.from;
           to = along.to;
-          pieces = λ none b. whole none b (ap (λ ls. goesOn (marks ρ 0 true ls) ls) (over stop m l)) (ap (λ ls. linePieces ρ stop (marks ρ 0 true ls) ls) (over stop m l) ∙ sym (no_more ρ text flags (lineFrom text stop) m (omega arith)));
+          pieces = λ none b. whole none b (ap (λ ls. goesOn (marks ρ 0 true ls) ls) (over stop m l)) (ap (λ ls. linePieces ρ stop (marks ρ 0 true ls) ls) (over stop m l) ∙ sym (no-more ρ text flags (lineFrom text stop) m (omega arith)));
         }

@@ -14,22 +14,22 @@ use Rattle.lexical.specs.Name.{all}
 use Rattle.lexical.specs.Line.{lineLength, isBlank}
 use Rattle.lexical.proofs.Cases.{split, clash}
 use Rattle.lexical.proofs.Suffix.{drop-take}
-use Rattle.rules.specs.Block.{kind_of}
+use Rattle.rules.specs.Block.{kindOf}
 use Rattle.rules.specs.Withhold.{Piece, Which, piece, inline, inlinePieces}
 use Rattle.rules.specs.declared.Rules.{Rules}
 use Rattle.rules.proofs.Cut.{lineFrom}
 use Rattle.walk.specs.Closer.{Known, allAhead}
-use Rattle.walk.specs.Remaining.{is_plain, line_at, fromLine, fromIndex, ParagraphEnd, Onward, atLine, remaining, Valid, isBlock, Leads, Same}
+use Rattle.walk.specs.Remaining.{isPlain, lineAt, fromLine, fromIndex, ParagraphEnd, Onward, atLine, remaining, Valid, isBlock, Leads, Same}
 use Rattle.walk.specs.declared.closers.Closers.{Closers}
 use Rattle.walk.specs.declared.paragraph.End.{End}
 use Rattle.walk.specs.declared.pieces.Cursor.{Cursor}
 use Rattle.walk.proofs.Ahead.{known-all}
-use Rattle.walk.proofs.FromLine.{ending_there, line-ended}
-use Rattle.walk.proofs.Paragraphs.{no_open, plain_closed, plain-length, plain-line, blank-content}
+use Rattle.walk.proofs.FromLine.{ending-there, line-ended}
+use Rattle.walk.proofs.Paragraphs.{noOpen, plain-closed, plain-length, plain-line, blank-content}
 use Rattle.walk.proofs.InlineSteps.{skipped}
 
 -- ---- the first `<` of a line
-open-some : (s : List ℕ) → first (drop (run is_plain s) s) ≡ byte "<" → run is_plain s < lineLength s
+open-some : (s : List ℕ) → first (drop (run isPlain s) s) ≡ byte "<" → run isPlain s < lineLength s
 unfolding run
 open-some [] h = let z : true ≡ false = ap (λ n. eqb n 256) h in clash true refl z
 open-some (x ∷ s) h =
@@ -38,7 +38,7 @@ open-some (x ∷ s) h =
     (λ e. let k : x ≡ byte "<" = simp (a, e) at h in clash (eqb x (byte "<")) (eq-eqb x (byte "<") k) a)
     (λ e. let k = simp (a, e) at h in let l = open-some s k in simp (a, e) (omega arith)))
 
-open-text : (s : List ℕ) → first (drop (run is_plain s) s) ≡ byte "<" → isBlank s ≡ false
+open-text : (s : List ℕ) → first (drop (run isPlain s) s) ≡ byte "<" → isBlank s ≡ false
 unfolding run isBlank
 open-text [] h = let z : true ≡ false = ap (λ n. eqb n 256) h in clash true refl z
 open-text (x ∷ s) h =
@@ -52,7 +52,7 @@ line-later text i l =
     split (ltb i (i + lineLength (drop i text))) (λ h. omega (arith, ltb-true i (i + lineLength (drop i text)) h))
     (λ h.
     let z : i + lineLength (drop i text) ≡ i = omega (arith, ltb-false i (i + lineLength (drop i text)) h) in
-    let e = ending_there text (i + lineLength (drop i text)) (line-ended text i) (omega (arith, z)) in
+    let e = ending-there text (i + lineLength (drop i text)) (line-ended text i) (omega (arith, z)) in
     omega (arith, e))
 
 -- ---- in front of a line
@@ -71,20 +71,20 @@ module _ (ρ : Rules) (text flags : List ℕ) where
     leads-block h is =
         record {
           which = w;
-          is_block = is;
+          is-block = is;
           is = h ∙ ap (λ t. piece i stop w ∷ fromLine ρ text flags t e.line) (sym a) ∙ ap (λ ps. piece i stop w ∷ ps) (sym (ap (remaining ρ text flags) b ∙ line-remaining next e.line));
           valid = subst (Valid text) (sym b) (line-valid next e.line);
         }
 
   -- ---- a line that opens no block
-  module _ (c : Cursor) (l : c.next < length text) (none : kind_of ρ (line_at text flags c.next c.line) ≡ 0)
-      (o : ℕ) (is : o ≡ c.next + run is_plain (drop c.next text)) where
+  module _ (c : Cursor) (l : c.next < length text) (none : kindOf ρ (lineAt text flags c.next c.line) ≡ 0)
+      (o : ℕ) (is : o ≡ c.next + run isPlain (drop c.next text)) where
     -- without `<`
     pub plain-same : (first (drop o text) ≡ byte "<" → ⊥) → (next m : ℕ) (d : Cursor) → next ≡ lineFrom text o → drop m flags ≡ drop 1 (drop c.line flags) → d ≡ atLine next m
         → Same ρ text flags c d
     plain-same h next m d a r b =
         let s = drop c.next text in
-        let plain : run is_plain s ≡ lineLength s = plain-length s (λ f. h (ap (λ t. first (drop t text)) is ∙ ap first (sym (drop-drop (run is_plain s) c.next text)) ∙ f)) in
+        let plain : run isPlain s ≡ lineLength s = plain-length s (λ f. h (ap (λ t. first (drop t text)) is ∙ ap first (sym (drop-drop (run isPlain s) c.next text)) ∙ f)) in
         let at : o ≡ c.next + lineLength s = omega (arith, is, plain) in
         let later : c.next < next = omega (arith, line-later text c.next l, a ∙ ap (lineFrom text) at) in
         subst (Same ρ text flags c) (sym b)
@@ -98,27 +98,27 @@ module _ (ρ : Rules) (text flags : List ℕ) where
       abbrev s : List ℕ
       s = drop c.next text
 
-      opens : first (drop (run is_plain s) s) ≡ byte "<"
-      opens = ap first (drop-drop (run is_plain s) c.next text) ∙ ap (λ t. first (drop t text)) (sym is) ∙ h
+      opens : first (drop (run isPlain s) s) ≡ byte "<"
+      opens = ap first (drop-drop (run isPlain s) c.next text) ∙ ap (λ t. first (drop t text)) (sym is) ∙ h
 
       front-is : front ≡ take e.stop text
       front-is = let z : e.stop - 0 ≡ e.stop = omega arith in f ∙ ap (λ n. take n text) z
 
-      front_length : length front ≡ e.stop
-      front_length = ap length front-is ∙ length-take-le e.stop text end.to
+      front-length : length front ≡ e.stop
+      front-length = ap length front-is ∙ length-take-le e.stop text end.to
 
       open-within : o < length front
-      open-within = omega (arith, front_length, is, open-some s opens, end.from)
+      open-within = omega (arith, front-length, is, open-some s opens, end.from)
 
       from-open : fromIndex ρ front c.next ≡ fromIndex ρ front o
       from-open =
-          let q : o - c.next ≡ run is_plain s = omega (arith, is) in
-          let part : take (o - c.next) (drop c.next front) ≡ take (run is_plain s) s =
+          let q : o - c.next ≡ run isPlain s = omega (arith, is) in
+          let part : take (o - c.next) (drop c.next front) ≡ take (run isPlain s) s =
           ap (λ t. take (o - c.next) (drop c.next t)) front-is
           ∙ ap (take (o - c.next)) (drop-take c.next e.stop text)
-          ∙ take-take (o - c.next) (e.stop - c.next) s (omega (arith, open-within, front_length))
+          ∙ take-take (o - c.next) (e.stop - c.next) s (omega (arith, open-within, front-length))
           ∙ ap (λ n. take n s) q in
-          skipped ρ front c.next o (ap (all no_open) part ∙ plain_closed s) (omega (arith, is)) (omega (arith, open-within))
+          skipped ρ front c.next o (ap (all noOpen) part ∙ plain-closed s) (omega (arith, is)) (omega (arith, open-within))
 
       pieces-from : fromLine ρ text flags c.next c.line ≡ fromIndex ρ front o ++ fromLine ρ text flags (lineFrom text e.stop) e.line
       pieces-from =
@@ -133,7 +133,7 @@ module _ (ρ : Rules) (text flags : List ℕ) where
         leads-inline start stop k on =
             record {
               which = inline;
-              is_block = refl;
+              is-block = refl;
               is =
                   pieces-from
                   ∙ ap (λ ps. ps ++ fromLine ρ text flags (lineFrom text e.stop) e.line) on.is
@@ -147,12 +147,12 @@ module _ (ρ : Rules) (text flags : List ℕ) where
             subst (Same ρ text flags c) (sym b)
             (record {
               is = pieces-from ∙ ap (λ ps. ps ++ fromLine ρ text flags (lineFrom text e.stop) e.line) none-there ∙ ap (λ t. fromLine ρ text flags t e.line) (sym a);
-              later = omega (arith, a, open-within, front_length, is);
+              later = omega (arith, a, open-within, front-length, is);
             })
 
 -- the same pieces by another name
 pub leads-as : {ρ : Rules} {text flags : List ℕ} {ps qs : List Piece} {start stop : ℕ} {b : Bool} {c : Cursor} → ps ≡ qs → Leads ρ text flags qs start stop b c → Leads ρ text flags ps start stop b c
-leads-as e l = record { which = l.which; is_block = l.is_block; is = e ∙ l.is; valid = l.valid }
+leads-as e l = record { which = l.which; is-block = l.is-block; is = e ∙ l.is; valid = l.valid }
 
 -- ---- a place in a paragraph, or behind it
 module _ (ρ : Rules) (text flags : List ℕ) (c : Cursor) (valid : Valid text c) (front : List ℕ) (f : front ≡ take (c.stop - 0) (drop 0 text)) where
@@ -172,7 +172,7 @@ module _ (ρ : Rules) (text flags : List ℕ) (c : Cursor) (valid : Valid text c
   leads-onward start stop k on =
       record {
         which = inline;
-        is_block = refl;
+        is-block = refl;
         is =
             remaining-is
             ∙ ap (λ ps. ps ++ fromLine ρ text flags c.next c.line) on.is

@@ -9,12 +9,12 @@ use lib.ListN.{length, drop, length-drop}
 use Rattle.rules.specs.Search.{choose}
 use Rattle.rules.specs.Inline.{Read, takes, lacks, keeping, rawHtml, readInline}
 use Rattle.rules.specs.declared.Rules.{Rules}
-use Rattle.html.specs.TextMachine.{step_of, follow, run_of}
+use Rattle.html.specs.TextMachine.{stepOf, follow, runOf}
 use Rattle.html.specs.declared.tokenizer.StateName.{StateName}
 use Rattle.html.specs.declared.tokenizer.StateName.TheVariants.{Start}
 use Rattle.html.specs.declared.tokenizer.State.{State}
 use Rattle.html.specs.declared.tokenizer.State.TheVariants.{Next, Ok, Nok}
-use Rattle.html.proofs.TextMeans.{start_is}
+use Rattle.html.proofs.TextMeans.{start-is}
 
 -- t is the end of s
 abbrev Ends : List ℕ → List ℕ → Type 0
@@ -25,8 +25,8 @@ abbrev Leaves : List ℕ → Read → Type 0
 Leaves s r = (t : List ℕ) (k : ℕ) → r ≡ takes t k → Ends s t
 
 -- the same with a byte in front
-ends_on : (x : ℕ) (s t : List ℕ) → Ends s t → Ends (x ∷ s) t
-ends_on x s t e =
+ends-on : (x : ℕ) (s t : List ℕ) → Ends s t → Ends (x ∷ s) t
+ends-on x s t e =
     let l : length t ≡ length s - (length s - length t) = ap length e ∙ length-drop (length s - length t) s in
     let n : suc (length s) - length t ≡ suc (length s - length t) = omega (arith, l) in
     e ∙ sym (ap (λ i. drop i (x ∷ s)) n)
@@ -36,17 +36,17 @@ ends-tail : (x : ℕ) (s : List ℕ) → Ends (x ∷ s) s
 ends-tail x s = let n : suc (length s) - length s ≡ 1 = omega arith in sym (ap (λ i. drop i (x ∷ s)) n)
 
 step-leaves : (x k : ℕ) (xs : List ℕ) (go : StateName → ℕ → Read) → ((s : StateName) (k : ℕ) → Leaves xs (go s k)) → (r : State) → Leaves (x ∷ xs) (follow r k xs go)
-step-leaves x k xs go ih (Next s k') t c h = ends_on x xs t (ih s k' t c h)
+step-leaves x k xs go ih (Next s k') t c h = ends-on x xs t (ih s k' t c h)
 step-leaves x k xs go ih Ok t c h = let e : xs ≡ t = cc in rw (← e) (ends-tail x xs)
 step-leaves x k xs go ih Nok t c h = cc
 
-run-leaves : (ρ : Rules) (xs : List ℕ) (s : StateName) (k : ℕ) → Leaves xs (run_of ρ s k xs)
-unfolding run_of
+run-leaves : (ρ : Rules) (xs : List ℕ) (s : StateName) (k : ℕ) → Leaves xs (runOf ρ s k xs)
+unfolding runOf
 run-leaves ρ [] s k t c h = cc
-run-leaves ρ (x ∷ xs) s k t c h = step-leaves x k xs (λ s' k'. run_of ρ s' k' xs) (run-leaves ρ xs) (step_of ρ s k x) t c h
+run-leaves ρ (x ∷ xs) s k t c h = step-leaves x k xs (λ s' k'. runOf ρ s' k' xs) (run-leaves ρ xs) (stepOf ρ s k x) t c h
 
 raw-leaves : (ρ : Rules) (s : List ℕ) → Leaves s (rawHtml ρ 0 s)
-raw-leaves ρ s t k h = run-leaves ρ s Start 0 t k (start_is ρ s 0 (omega arith) ∙ h)
+raw-leaves ρ s t k h = run-leaves ρ s Start 0 t k (start-is ρ s 0 (omega arith) ∙ h)
 
 -- the carry does not matter
 keeping-leaves : (s : List ℕ) (r : Read) → Leaves s r → Leaves s (keeping 0 r)

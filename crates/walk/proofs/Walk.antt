@@ -8,10 +8,10 @@ use Prim.Native.Nat.{ℕ, suc, ◌+◌, ◌-◌, ◌<◌, ◌≤◌}
 use native.Mathlib.Omega.{arith}
 use lib.ListN.{length, take, length-append, drop_of_length-le}
 use Rattle.lexical.specs.Buffer.{stored, Written}
-use Rattle.lexical.proofs.Stores.{stores, from_front, same, written-whole}
+use Rattle.lexical.proofs.Stores.{stores, from-front, same, written-whole}
 use Rattle.rules.specs.Withhold.{Piece, piece, pieces, written}
 use Rattle.rules.specs.declared.Rules.{Rules}
-use Rattle.runs.proofs.Ordered.{Ordered, none, bounds, first-from, first_some, others, first_to, pieces-ordered}
+use Rattle.runs.proofs.Ordered.{Ordered, none, bounds, first-from, first-some, others, first-to, pieces-ordered}
 use Rattle.walk.specs.Remaining.{fromLine, atLine, remaining, Valid, Leads}
 use Rattle.walk.specs.declared.pieces.Cursor.{Cursor}
 use Rattle.walk.proofs.Places.{line-valid, line-remaining}
@@ -31,30 +31,30 @@ pub record Output (text : List ℕ) : Type 0 where
 -- each piece has a byte
 pub fewer : (lo hi : ℕ) (ps : List Piece) → Ordered lo hi ps → lo + length ps ≤ hi
 fewer lo hi [] o = let b = bounds o in omega arith
-fewer lo hi (p ∷ ps) o = let h = fewer p.stop hi ps (others o) in let a = first-from o in let b = first_some o in omega arith
+fewer lo hi (p ∷ ps) o = let h = fewer p.stop hi ps (others o) in let a = first-from o in let b = first-some o in omega arith
 
 module _ (ρ : Rules) (text flags : List ℕ) where
-  pub from_start : remaining ρ text flags (atLine 0 0) ≡ pieces ρ text flags
+  pub from-start : remaining ρ text flags (atLine 0 0) ≡ pieces ρ text flags
   unfolding fromLine pieces
-  from_start = line-remaining ρ text flags 0 0
+  from-start = line-remaining ρ text flags 0 0
 
   -- ---- the pieces passed are counted
   pub record Counting (c : Cursor) (number : ℕ) : Type 0 where
     pub counted : number + length (remaining ρ text flags c) ≡ length (pieces ρ text flags)
 
   pub counting-start : Counting (atLine 0 0) 0
-  counting-start = record { counted = let e : length (remaining ρ text flags (atLine 0 0)) ≡ length (pieces ρ text flags) = ap length from_start in omega (arith, e) }
+  counting-start = record { counted = let e : length (remaining ρ text flags (atLine 0 0)) ≡ length (pieces ρ text flags) = ap length from-start in omega (arith, e) }
 
   module _ (c : Cursor) (number : ℕ) (counting : Counting c number) where
     module _ (start stop : ℕ) (b : Bool) (d : Cursor) (leads : Leads ρ text flags (remaining ρ text flags c) start stop b d) where
       pub counting-on : Counting d (number + 1)
       counting-on = record { counted = let e : length (remaining ρ text flags c) ≡ suc (length (remaining ρ text flags d)) = ap length leads.is in omega (arith, e, counting.counted) }
 
-      pub number_bound : number + 1 ≤ length text
-      number_bound = omega (arith, counting-on.counted, fewer 0 (length text) (pieces ρ text flags) (pieces-ordered ρ text flags))
+      pub number-bound : number + 1 ≤ length text
+      number-bound = omega (arith, counting-on.counted, fewer 0 (length text) (pieces ρ text flags) (pieces-ordered ρ text flags))
 
-    pub number_is : remaining ρ text flags c ≡ [] → number ≡ length (pieces ρ text flags)
-    number_is h = let e : length (remaining ρ text flags c) ≡ 0 = ap length h in omega (arith, e, counting.counted)
+    pub number-is : remaining ρ text flags c ≡ [] → number ≡ length (pieces ρ text flags)
+    number-is h = let e : length (remaining ρ text flags c) ≡ 0 = ap length h in omega (arith, e, counting.counted)
 
   -- ---- what is made so far has the length size
   module _ (o : Output text) where
@@ -69,12 +69,12 @@ module _ (ρ : Rules) (text flags : List ℕ) where
       pub ordered : Ordered from (length text) (remaining ρ text flags c)
       pub sum : size + length (to-come c from) ≡ length whole
 
-    pub walking_start : Walking (atLine 0 0) 0 0
-    walking_start =
+    pub walking-start : Walking (atLine 0 0) 0 0
+    walking-start =
         record {
           valid = line-valid ρ text flags 0 0;
-          ordered = subst (Ordered 0 (length text)) (sym from_start) (pieces-ordered ρ text flags);
-          sum = let e : length (to-come (atLine 0 0) 0) ≡ length whole = ap (λ ps. length (o.ahead 0 ps)) from_start in omega (arith, e);
+          ordered = subst (Ordered 0 (length text)) (sym from-start) (pieces-ordered ρ text flags);
+          sum = let e : length (to-come (atLine 0 0) 0) ≡ length whole = ap (λ ps. length (o.ahead 0 ps)) from-start in omega (arith, e);
         }
 
     module _ (c : Cursor) (from size : ℕ) (walking : Walking c from size) where
@@ -90,13 +90,13 @@ module _ (ρ : Rules) (text flags : List ℕ) where
         first-is = subst (Ordered from (length text)) leads.is walking.ordered
 
         pub from-to : (from ≤ start) × (start < stop) × (stop ≤ length text)
-        from-to = (first-from first-is, first_some first-is, first_to first-is)
+        from-to = (first-from first-is, first-some first-is, first-to first-is)
 
         pub parted : to-come c from ≡ o.part from p ++ to-come d stop
         parted = ap (o.ahead from) leads.is ∙ o.by-piece from p (remaining ρ text flags d) first-is
 
-        pub walking_on : (n : ℕ) → n ≡ size + length (o.part from p) → Walking d stop n
-        walking_on n h =
+        pub walking-on : (n : ℕ) → n ≡ size + length (o.part from p) → Walking d stop n
+        walking-on n h =
             record {
               valid = leads.valid;
               ordered = others first-is;
@@ -104,7 +104,7 @@ module _ (ρ : Rules) (text flags : List ℕ) where
             }
 
         pub part-bound : size + length (o.part from p) ≤ length whole
-        part-bound = omega (arith, (walking_on (size + length (o.part from p)) refl).sum)
+        part-bound = omega (arith, (walking-on (size + length (o.part from p)) refl).sum)
 
       -- no piece
       module _ (over : remaining ρ text flags c ≡ []) where
@@ -130,26 +130,26 @@ module _ (ρ : Rules) (text flags : List ℕ) where
         pub none-remain : remaining ρ text flags c ≡ []
         none-remain = drop_of_length-le (remaining ρ text flags c) {i = 0} (omega (arith, fewer from (length text) (remaining ρ text flags c) walking.ordered))
 
-        pub none_ahead : to-come c from ≡ []
-        none_ahead = let e : from ≡ length text = omega (arith, within) in ap (to-come c) e ∙ none-come none-remain
+        pub none-ahead : to-come c from ≡ []
+        none-ahead = let e : from ≡ length text = omega (arith, within) in ap (to-come c) e ∙ none-come none-remain
 
-        pub size_is : size ≡ length whole
-        size_is = let e = ap length none_ahead in omega (arith, e, walking.sum)
+        pub size-is : size ≡ length whole
+        size-is = let e = ap length none-ahead in omega (arith, e, walking.sum)
 
     -- ---- and it is written
     module _ (old : List ℕ) where
       pub record Showing (out : List ℕ) (c : Cursor) (from size : ℕ) : Type 0 where
         pub walking : Walking c from size
-        pub same_length : length out ≡ length old
+        pub same-length : length out ≡ length old
         pub bytes : stored out size (to-come c from) ≡ stored old 0 whole
 
       pub showing-start : Showing old (atLine 0 0) 0 0
-      showing-start = record { walking = walking_start; same_length = refl; bytes = ap (λ ps. stored old 0 (o.ahead 0 ps)) from_start }
+      showing-start = record { walking = walking-start; same-length = refl; bytes = ap (λ ps. stored old 0 (o.ahead 0 ps)) from-start }
 
       module _ (out : List ℕ) (c : Cursor) (from size : ℕ) (showing : Showing out c from size) where
         -- what fits is written whole
         pub fits : length whole ≤ length old → {bs new : List ℕ} → size + length bs ≤ length whole → Written out size (take (length out - size) bs) new → Written out size bs new
-        fits room {bs} l w = written-whole bs (omega (arith, showing.same_length)) w
+        fits room {bs} l w = written-whole bs (omega (arith, showing.same-length)) w
 
         module _ (new : List ℕ) where
           pub showing-on : (start stop : ℕ) (b : Bool) (d : Cursor) (leads : Leads ρ text flags (remaining ρ text flags c) start stop b d) (n : ℕ)
@@ -158,8 +158,8 @@ module _ (ρ : Rules) (text flags : List ℕ) where
               let p = piece start stop leads.which in
               let walking = showing.walking in
               record {
-                walking = walking_on c from size walking start stop b d leads n h;
-                same_length = same w ∙ showing.same_length;
+                walking = walking-on c from size walking start stop b d leads n h;
+                same-length = same w ∙ showing.same-length;
                 bytes =
                     ap (λ t. stored t n (to-come d stop)) w.is
                     ∙ stores out size n (o.part from p) (to-come d stop) h
@@ -173,7 +173,7 @@ module _ (ρ : Rules) (text flags : List ℕ) where
               let walking = showing.walking in
               record {
                 walking = walking-end c from size walking over n h;
-                same_length = same w ∙ showing.same_length;
+                same-length = same w ∙ showing.same-length;
                 bytes = ap (stored new n) (none-come c from size walking over) ∙ w.is ∙ ap (stored out size) (sym (rest-is c from size walking over)) ∙ showing.bytes;
               }
 
@@ -182,4 +182,4 @@ module _ (ρ : Rules) (text flags : List ℕ) where
         unfolding stored written
         shows-all room l =
             let walking = showing.walking in
-            (size_is c from size walking l, ap (stored out size) (sym (none_ahead c from size walking l)) ∙ showing.bytes ∙ from_front whole old room)
+            (size-is c from size walking l, ap (stored out size) (sym (none-ahead c from size walking l)) ∙ showing.bytes ∙ from-front whole old room)

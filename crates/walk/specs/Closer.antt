@@ -12,8 +12,8 @@ abbrev pub isDeclaration : List ℕ → Bool
 isDeclaration s = begins (bytes "<!") s && isLetter (first (drop 2 s))
 
 -- the form of the opening in front
-unfoldable pub form_of : List ℕ → Form
-form_of s =
+unfoldable pub formOf : List ℕ → Form
+formOf s =
     choose (begins (bytes "<?") s) (λ _. Instruction)
     (λ _. choose (begins (bytes "<!--") s) (λ _. Comment)
     (λ _. choose (begins (bytes "<![CDATA[") s) (λ _. Cdata) (λ _. choose (isDeclaration s) (λ _. Declaration) (λ _. Other))))
@@ -46,4 +46,4 @@ allAhead = record { comment = true; instruction = true; declaration = true; cdat
 -- What the memory says holds of the text behind its first byte. An instruction's `?` may begin a closer that is not its own: `<?>` finds none, and yet `?>` lies
 -- behind its `<`.
 pub record Known (c : Closers) (s : List ℕ) : Type 0 where
-  pub none_ahead : (f : Form) → isAhead c f ≡ false → throughFirst (closerOf f) (drop 1 s) ≡ nothing
+  pub none-ahead : (f : Form) → isAhead c f ≡ false → throughFirst (closerOf f) (drop 1 s) ≡ nothing

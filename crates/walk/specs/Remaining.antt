@@ -1,12 +1,12 @@
 -- The pieces that remain from a place of a bulletin on, in the order of the code. It need not be believed: of public contracts only
--- those of `at_line` and `next_piece` cite it, and the proofs show that from the first line on they are the pieces of the rules (`from_start` in proofs/Walk.antt).
+-- those of `at_line` and `next_piece` cite it, and the proofs show that from the first line on they are the pieces of the rules (`from-start` in proofs/Walk.antt).
 use Rattle.std.specs.Prelude.{◌≡◌, Bool, true, false, ◌||◌, not, List, [], ◌∷◌, ◌++◌, ℕ, ◌+◌, ◌<◌, ◌≤◌, eqb, length, get_or, take, drop}
 use Rattle.lexical.specs.Text.{byte}
 use Rattle.lexical.specs.Line.{isInner, lineLength, isBlank}
 use Rattle.rules.specs.Inline.{takes, lacks, readInline}
-use Rattle.rules.specs.Lines.{Line, line, lines_of}
-use Rattle.rules.specs.Block.{kind_of}
-use Rattle.rules.specs.Scan.{Found as FoundBlock, foundBlock, block_of}
+use Rattle.rules.specs.Lines.{Line, line, linesOf}
+use Rattle.rules.specs.Block.{kindOf}
+use Rattle.rules.specs.Scan.{Found as FoundBlock, foundBlock, blockOf}
 use Rattle.rules.specs.Withhold.{Piece, Which, piece, inline, block, marks, inlinePieces, linePieces}
 use Rattle.rules.specs.declared.Rules.{Rules}
 use Rattle.rules.proofs.Cut.{lineFrom}
@@ -26,24 +26,24 @@ use Rattle.walk.specs.declared.pieces.Turn.TheVariants.{Piece as TurnPiece, Line
 
 -- ---- lines
 -- a byte of a line that is no `<`
-abbrev pub is_plain : ℕ → Bool
-is_plain b = isInner (byte "<") b
+abbrev pub isPlain : ℕ → Bool
+isPlain b = isInner (byte "<") b
 
 -- the line at an index, with its number
-abbrev pub line_at : List ℕ → List ℕ → ℕ → ℕ → Line
-line_at text flags i n = line (get_or (drop n flags) 0 0) [] (contentFrom text i)
+abbrev pub lineAt : List ℕ → List ℕ → ℕ → ℕ → Line
+lineAt text flags i n = line (get_or (drop n flags) 0 0) [] (contentFrom text i)
 
 abbrev pub endsParagraph : Rules → Line → Bool
-endsParagraph ρ l = isBlank l.content || not (eqb (kind_of ρ l) 0)
+endsParagraph ρ l = isBlank l.content || not (eqb (kindOf ρ l) 0)
 
 -- the pieces of the lines from an index on, outside blocks and paragraphs
 unfoldable pub fromLine : Rules → List ℕ → List ℕ → ℕ → ℕ → List Piece
-fromLine ρ text flags i n = linePieces ρ i (marks ρ 0 false (lines_of (drop n flags) (drop i text))) (lines_of (drop n flags) (drop i text))
+fromLine ρ text flags i n = linePieces ρ i (marks ρ 0 false (linesOf (drop n flags) (drop i text))) (linesOf (drop n flags) (drop i text))
 
 -- a block that the line at an index opens, and the end of its last line
 pub record BlockEnd (text flags : List ℕ) (i n stop : ℕ) (e : End) : Type 0 where
   pub to : e.stop ≤ length text
-  pub pieces : (ρ : Rules) (b : FoundBlock) → b.stop ≡ stop → block_of ρ i (lines_of (drop n flags) (drop i text)) ≡ foundBlock b
+  pub pieces : (ρ : Rules) (b : FoundBlock) → b.stop ≡ stop → blockOf ρ i (linesOf (drop n flags) (drop i text)) ≡ foundBlock b
       → fromLine ρ text flags i n ≡ piece i stop (block b.kind b.closed) ∷ fromLine ρ text flags (lineFrom text e.stop) e.line
 
 -- ---- paragraphs
@@ -55,7 +55,7 @@ fromIndex ρ text i = inlinePieces ρ (length (drop i text)) i (drop i text)
 pub record ParagraphEnd (ρ : Rules) (text flags : List ℕ) (i n : ℕ) (e : End) : Type 0 where
   pub from : i + lineLength (drop i text) ≤ e.stop
   pub to : e.stop ≤ length text
-  pub pieces : kind_of ρ (line_at text flags i n) ≡ 0 → isBlank (contentFrom text i) ≡ false
+  pub pieces : kindOf ρ (lineAt text flags i n) ≡ 0 → isBlank (contentFrom text i) ≡ false
       → fromLine ρ text flags i n ≡ fromIndex ρ (take e.stop text) i ++ fromLine ρ text flags (lineFrom text e.stop) e.line
 
 -- what is found at an index of a paragraph
@@ -101,7 +101,7 @@ isBlock (block k c) = true
 -- a piece, b where it is a block, and the place behind it
 pub record Leads (ρ : Rules) (text flags : List ℕ) (ps : List Piece) (start stop : ℕ) (b : Bool) (c : Cursor) : Type 0 where
   pub which : Which
-  pub is_block : isBlock which ≡ b
+  pub is-block : isBlock which ≡ b
   pub is : ps ≡ piece start stop which ∷ remaining ρ text flags c
   pub valid : Valid text c
 
@@ -123,4 +123,4 @@ Goes ρ text flags ps NoPiece = ps ≡ []
 pub record Opens (ρ : Rules) (text flags : List ℕ) (c : Cursor) (stop : ℕ) : Type 0 where
   pub found : FoundBlock
   pub stops : found.stop ≡ stop
-  pub is : block_of ρ c.next (lines_of (drop c.line flags) (drop c.next text)) ≡ foundBlock found
+  pub is : blockOf ρ c.next (linesOf (drop c.line flags) (drop c.next text)) ≡ foundBlock found

@@ -3,7 +3,7 @@
 ghost use Rattle.std.specs.Prelude.{◌≡◌, drop};
 ghost use Rattle.lexical.specs.Text.{bytes};
 ghost use Rattle.rules.specs.Search.{begins};
-ghost use Rattle.walk.specs.Closer.{form_of, isDeclaration, isAhead, without as withoutOf, allAhead};
+ghost use Rattle.walk.specs.Closer.{formOf, isDeclaration, isAhead, without as withoutOf, allAhead};
 
 use lexical::byte::is_letter;
 use lexical::constant::{HTML_CDATA_SIZE, cdata_letters};
@@ -72,7 +72,7 @@ fn is_cdata(text: &[u8], index: usize) -> bool
 
 // The form of the opening at an index.
 pub(crate) fn form_at(text: &[u8], index: usize) -> Form
-    ensures { result ≡ form_of (drop index text.now) }
+    ensures { result ≡ formOf (drop index text.now) }
 {
     if begins_with(text, index, b"<?") {
         return Form::Instruction;

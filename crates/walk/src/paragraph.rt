@@ -2,7 +2,7 @@
 ghost use Rattle.std.specs.Prelude.{◌≡◌, not, ◌+◌, ◌<◌, ◌≤◌, eqb, length, drop};
 ghost use Rattle.lexical.specs.Text.{byte, run};
 ghost use Rattle.walk.specs.Closer.{Known};
-ghost use Rattle.walk.specs.Remaining.{line_at, endsParagraph, ParagraphEnd, Attempt, NextInline};
+ghost use Rattle.walk.specs.Remaining.{lineAt, endsParagraph, ParagraphEnd, Attempt, NextInline};
 
 use crate::closers::{Closers, form_at, is_ahead, without};
 use flow::partial_non_lazy_continuation::next_number;
@@ -39,7 +39,7 @@ pub(crate) enum Inlined {
 
 // Whether the line at an index belongs to no paragraph: it is blank, or it opens a block.
 fn ends_paragraph(rules: Rules, bulletin: &[u8], flags: &[u8], index: usize, line: usize) -> bool
-    ensures { result ≡ endsParagraph rules (line_at bulletin.now flags.now index line) }
+    ensures { result ≡ endsParagraph rules (lineAt bulletin.now flags.now index line) }
 {
     if is_blank(bulletin, index) {
         return true;

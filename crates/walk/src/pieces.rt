@@ -1,7 +1,7 @@
 // The pieces of a bulletin, one after the other.
 ghost use Rattle.std.specs.Prelude.{◌≡◌, ◌<◌, ◌≤◌, length};
-ghost use Rattle.rules.specs.Block.{kind_of};
-ghost use Rattle.walk.specs.Remaining.{line_at, BlockEnd, atLine, Valid, Opens, fromLine, remaining, TurnTo, Goes};
+ghost use Rattle.rules.specs.Block.{kindOf};
+ghost use Rattle.walk.specs.Remaining.{lineAt, BlockEnd, atLine, Valid, Opens, fromLine, remaining, TurnTo, Goes};
 
 use crate::closers::{Closers, all_ahead};
 use crate::paragraph::{End, Inlined, next_inline, paragraph_end};
@@ -97,7 +97,7 @@ fn block_line(rules: Rules, bulletin: &[u8], flags: &[u8], cursor: Cursor, stop:
 // A line that opens no block. Where it has no `<`, the next line may as well begin a paragraph: the end of a paragraph is looked for only where it has a `<`.
 fn text_line(rules: Rules, bulletin: &[u8], flags: &[u8], cursor: Cursor) -> Turn
     requires next_in_bounds { cursor.next < length bulletin.now }
-    requires line_value { kind_of rules (line_at bulletin.now flags.now cursor.next cursor.line) ≡ 0 }
+    requires line_value { kindOf rules (lineAt bulletin.now flags.now cursor.next cursor.line) ≡ 0 }
     ensures { TurnTo rules bulletin.now flags.now cursor result }
 {
     let opening = mark_or_line_end(bulletin, cursor.next, b'<');

@@ -21,8 +21,8 @@ byte-at-requires c κs = search rules
 is-digit-requires : tie.Need-is-digit-requires invariant-loop decreases-loop
 is-digit-requires c κs = search rules
 
-same_length : tie.Need-same-length invariant-loop decreases-loop
-same_length c = search rules
+same-length : tie.Need-same-length invariant-loop decreases-loop
+same-length c = search rules
 
 returns : tie.Need-returns invariant-loop decreases-loop
 returns c = search rules
@@ -57,7 +57,7 @@ flags-of-spec =
     loop-holds
     byte-at-requires
     is-digit-requires
-    same_length
+    same-length
     returns
     digit-requires
     slice-write-out

@@ -16,8 +16,8 @@ decreases-loop line from out₀ i₀ n₀ out i n = length line - i
 loop-holds : tie.Need-loop-init invariant-loop decreases-loop
 loop-holds c = search rules
 
-same_length : tie.Need-same-length invariant-loop decreases-loop
-same_length c = search rules
+same-length : tie.Need-same-length invariant-loop decreases-loop
+same-length c = search rules
 
 returns : tie.Need-returns invariant-loop decreases-loop
 returns c = search rules
@@ -65,7 +65,7 @@ unescape-spec =
     invariant-loop
     decreases-loop
     loop-holds
-    same_length
+    same-length
     returns
     shared-slice-read-b
     add-byte-at

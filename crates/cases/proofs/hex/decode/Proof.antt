@@ -19,8 +19,8 @@ loop-holds c = search rules
 add-j : tie.Need-overflow-add-j invariant-loop decreases-loop
 add-j c = search rules
 
-same_length : tie.Need-same-length invariant-loop decreases-loop
-same_length c = search rules
+same-length : tie.Need-same-length invariant-loop decreases-loop
+same-length c = search rules
 
 returns : tie.Need-returns invariant-loop decreases-loop
 returns c = search rules
@@ -78,7 +78,7 @@ decode-spec =
     decreases-loop
     loop-holds
     add-j
-    same_length
+    same-length
     returns
     same-length-2
     returns-2

@@ -15,8 +15,8 @@ decreases-loop bytes₀ n end i₀ bytes i = length bytes₀ - i
 loop-holds : tie.Need-loop-init invariant-loop decreases-loop
 loop-holds c = search rules
 
-same_length : tie.Need-same-length invariant-loop decreases-loop
-same_length c = search rules
+same-length : tie.Need-same-length invariant-loop decreases-loop
+same-length c = search rules
 
 returns : tie.Need-returns invariant-loop decreases-loop
 returns c = search rules
@@ -52,7 +52,7 @@ repeat-spec =
     invariant-loop
     decreases-loop
     loop-holds
-    same_length
+    same-length
     returns
     sub-bytes
     slice-read-bytes

@@ -5,7 +5,7 @@ use Prim.Native.Nat.{ℕ}
 use native.Mathlib.Omega.{arith}
 use lib.ListN.{drop}
 use Rattle.flow.specs.ContinuationMachine.{rawEndOf}
-use Rattle.flow.proofs.RawEnd.{no-open, no-slash-left, no_slash, raw_at}
+use Rattle.flow.proofs.RawEnd.{no-open, no-slash-left, no-slash, raw-at}
 use Rattle.flow.proofs.html_flow.continuation_raw_tag_open.Goals as goal
 
 pub returns-then-line-at-ne60 : goal.returns-then-line-at-ne60
@@ -15,7 +15,7 @@ pub returns-then-slash-line : goal.returns-then-slash-line
 returns-then-slash-line c = let a = c.args in sym (no-slash-left a.line.now a.at c.requires c.if-slash-line.true)
 
 pub returns-then-line-slash-ne47 : goal.returns-then-line-slash-ne47
-returns-then-line-slash-ne47 c = let a = c.args in sym (no_slash a.line.now a.at c.if-slash-line.false c.if-line-slash-ne47.true)
+returns-then-line-slash-ne47 c = let a = c.args in sym (no-slash a.line.now a.at c.if-slash-line.false c.if-line-slash-ne47.true)
 
 pub returns : goal.returns
 returns c = let a = c.args in
@@ -23,4 +23,4 @@ returns c = let a = c.args in
     let none : name - name ≡ 0 = omega arith in
     c.continuation_raw_end_tag.ensures
     ∙ ap (λ (m : ℕ). rawEndOf 8 (drop name a.line.now) m) none
-    ∙ raw_at a.line.now a.at c.if-slash-line.false c.if-line-at-ne60.false c.if-line-slash-ne47.false
+    ∙ raw-at a.line.now a.at c.if-slash-line.false c.if-line-at-ne60.false c.if-line-slash-ne47.false

@@ -1,7 +1,7 @@
 use mathlib.Core.Path.{refl, sym, ◌∙◌}
 use Prim.Native.Nat.{◌-◌}
 use Rattle.flow.specs.Answer.{kindNumber}
-use Rattle.flow.proofs.BlockSteps.{next-flags, text-over, same_from, line-ends, line-closes, line_on, next-within}
+use Rattle.flow.proofs.BlockSteps.{next-flags, text-over, same-from, line-ends, line-closes, line-on, next-within}
 use borrow.Author.Rules.{rules}
 use Rattle.flow.proofs.html_flow.continuation_start.Goals as goal
 
@@ -9,7 +9,7 @@ pub loop-stop-init : goal.loop-stop-init
 loop-stop-init c = refl
 
 pub returns-then-from-stop : goal.returns-then-from-stop
-returns-then-from-stop c = let a = c.args in c.continuation_after.ensures ∙ sym (same_from a.rules (kindNumber a.kind) a.name a.bulletin.now a.flags.now c.loop-stop.stop c.loop-stop.number _ c.continuation_start_non_lazy-from.ensures c.if-from-stop.true) ∙ c.loop-stop.invariant
+returns-then-from-stop c = let a = c.args in c.continuation_after.ensures ∙ sym (same-from a.rules (kindNumber a.kind) a.name a.bulletin.now a.flags.now c.loop-stop.stop c.loop-stop.number _ c.continuation_start_non_lazy-from.ensures c.if-from-stop.true) ∙ c.loop-stop.invariant
 
 pub returns-then-ends_before : goal.returns-then-ends_before
 returns-then-ends_before c = let a = c.args in
@@ -34,7 +34,7 @@ returns-then-at-content c = let a = c.args in
 
 pub loop-stop-preserved : goal.loop-stop-preserved
 loop-stop-preserved c = let a = c.args in
-    sym (line_on a.rules (kindNumber a.kind) a.name a.bulletin.now a.flags.now c.loop-stop.stop c.loop-stop.number _ _ _ c.continuation_start_non_lazy-from.ensures c.continuation_before-content.ensures c.flag_at.ensures c.if-from-stop.false
+    sym (line-on a.rules (kindNumber a.kind) a.name a.bulletin.now a.flags.now c.loop-stop.stop c.loop-stop.number _ _ _ c.continuation_start_non_lazy-from.ensures c.continuation_before-content.ensures c.flag_at.ensures c.if-from-stop.false
     (sym c.ends_before.ensures ∙ c.if-ends_before.false) _ c.before_closer-at.ensures c.if-at-content.false _ (next-flags a.flags.now _ _ c.next_number-number.ensures))
     ∙ c.loop-stop.invariant
 

@@ -2,7 +2,7 @@ use mathlib.Core.Path.{sym, ◌∙◌}
 use Prim.Native.Nat.{◌-◌}
 use native.Mathlib.Omega.{arith}
 use Rattle.rules.specs.Block.{isRawEnd}
-use Rattle.rules.proofs.Past.{first-here, first_on, first_out}
+use Rattle.rules.proofs.Past.{first-here, first-on, first-out}
 use Rattle.flow.proofs.RawEnd.{raw-end-behind}
 use borrow.Author.Rules.{rules}
 use Rattle.flow.proofs.html_flow.find_raw_end_tag.Goals as goal
@@ -18,7 +18,7 @@ loop-i-smaller c = search (rules, c.mark_or_line_end-i-in-loop-i.ensures)
 
 pub loop-i-preserved : goal.loop-i-preserved
 loop-i-preserved c = sym (raw-end-behind _ _ _ c.mark_or_line_end-i-in-loop-i.ensures)
-    ∙ sym (first_on isRawEnd _ _ c.loop-i-test.true (sym c.continuation_raw_tag_open.ensures ∙ c.if-continuation_raw_tag_open.false)) ∙ c.loop-i.invariant
+    ∙ sym (first-on isRawEnd _ _ c.loop-i-test.true (sym c.continuation_raw_tag_open.ensures ∙ c.if-continuation_raw_tag_open.false)) ∙ c.loop-i.invariant
 
 pub returns : goal.returns
-returns c = sym (first_out isRawEnd _ _ c.loop-i-test.false) ∙ c.loop-i.invariant
+returns c = sym (first-out isRawEnd _ _ c.loop-i-test.false) ∙ c.loop-i.invariant

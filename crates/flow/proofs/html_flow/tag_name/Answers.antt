@@ -6,7 +6,7 @@ use borrow.Author.Tests.{ne_eqb}
 use Rattle.lexical.specs.Name.{blockPlace, rawPlace}
 use Rattle.lexical.proofs.Names.{block-place-is, raw-place-is}
 use Rattle.rules.proofs.NameLaws.{name-cut}
-use Rattle.flow.proofs.NameSteps.{no-break, raw-name, block-name, other_name}
+use Rattle.flow.proofs.NameSteps.{no-break, raw-name, block-name, other-name}
 use borrow.Author.Rules.{rules}
 use Rattle.flow.proofs.html_flow.tag_name.Goals as goal
 
@@ -62,6 +62,6 @@ returns c = let a = c.args in
     let slash = ap (λ (x : ℕ). eqb x 47) (sym c.peek-slash.ensures) in
     let basic = c.block_place-basic.ensures ∙ ap blockPlace name in (
       c.complete.ensures.result_value
-          ∙ sym (other_name line a.at end ends a.rules a.flag a.closing _ _ (sym c.is_name_break.ensures ∙ c.if-not-is_name_break.false) (raw-place-is _ _ place) slash c.if-is_raw-closing.false (block-place-is _ _ basic ∙ rw c.if-basic.false)),
+          ∙ sym (other-name line a.at end ends a.rules a.flag a.closing _ _ (sym c.is_name_break.ensures ∙ c.if-not-is_name_break.false) (raw-place-is _ _ place) slash c.if-is_raw-closing.false (block-place-is _ _ basic ∙ rw c.if-basic.false)),
       c.complete.ensures.unnamed _,
     )

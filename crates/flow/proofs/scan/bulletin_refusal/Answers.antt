@@ -10,7 +10,7 @@ use Rattle.lexical.specs.Text.{limit}
 use Rattle.lexical.specs.Line.{lines}
 use Rattle.lexical.specs.Name.{all}
 use Rattle.rules.specs.Refusal.{bulletinRefusal}
-use Rattle.rules.proofs.Refusals.{applies, passes, no_more}
+use Rattle.rules.proofs.Refusals.{applies, passes, no-more}
 use Rattle.flow.proofs.scan.bulletin_refusal.Goals as goal
 
 -- the tests as the code makes them: over the limit, the number of lines, and whether all are flags
@@ -34,7 +34,7 @@ module _ (text flags : List ℕ) where
 
       refuses-nothing : not (all (λ f. leb f 3) flags) ≡ false → bulletinRefusal text flags ≡ 0
       unfolding bulletinRefusal
-      refuses-nothing h = passes _ 1 _ short ∙ passes _ 2 _ right-count ∙ passes _ 3 _ h ∙ no_more
+      refuses-nothing h = passes _ 1 _ short ∙ passes _ 2 _ right-count ∙ passes _ 3 _ h ∙ no-more
 
 pub returns-then-is_over_limit : goal.returns-then-is_over_limit
 returns-then-is_over_limit c = let a = c.args in sym (refuses-long a.bulletin.now a.flags.now (sym c.is_over_limit.ensures ∙ c.if-is_over_limit.true))

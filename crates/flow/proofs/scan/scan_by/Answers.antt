@@ -7,11 +7,11 @@ use native.Mathlib.Omega.{arith}
 use lib.ListN.{take, drop}
 use borrow.Author.Tests.{ne_eqb}
 use Rattle.lexical.specs.Line.{lines, lineEndings, isLineStart}
-use Rattle.rules.specs.Lines.{lines_of}
+use Rattle.rules.specs.Lines.{linesOf}
 use Rattle.rules.specs.Refusal.{Check, refusal, tooLong, wrongCount, wrongFlag, noLineStart, blockRefusal, bulletinRefusal}
-use Rattle.rules.specs.Scan.{BlockAnswer, refusedBlock, linesAt, block_of, blockAt, blockScan}
+use Rattle.rules.specs.Scan.{BlockAnswer, refusedBlock, linesAt, blockOf, blockAt, blockScan}
 use Rattle.rules.specs.declared.Rules.{Rules}
-use Rattle.rules.proofs.Refusals.{applies, passes, no_more, refused-front, passed-front, decided, refuses, answers}
+use Rattle.rules.proofs.Refusals.{applies, passes, no-more, refused-front, passed-front, decided, refuses, answers}
 use borrow.Author.Rules.{rules}
 use Rattle.flow.proofs.scan.scan_by.Goals as goal
 
@@ -42,19 +42,19 @@ module _ (ρ : Rules) (text flags : List ℕ) (i : ℕ) where
     refuses-index z h = all-checks ∙ refuses refusedBlock answer checks 4 refl (fourth z ∙ applies (not (isLineStart text i)) 4 [] h)
 
     refuses-nothing : n ≡ 0 → not (isLineStart text i) ≡ false → blockScan ρ text flags i ≡ answer
-    refuses-nothing z h = all-checks ∙ answers refusedBlock answer checks (fourth z ∙ passes (not (isLineStart text i)) 4 [] h ∙ no_more)
+    refuses-nothing z h = all-checks ∙ answers refusedBlock answer checks (fourth z ∙ passes (not (isLineStart text i)) 4 [] h ∙ no-more)
 
   -- the number of the line at the index
-  number_is : (part : List ℕ) (n : ℕ) → part ≡ take (i - 0) (drop 0 text) → n ≡ lines part → n - 1 ≡ lineEndings (take i text)
+  number-is : (part : List ℕ) (n : ℕ) → part ≡ take (i - 0) (drop 0 text) → n ≡ lines part → n - 1 ≡ lineEndings (take i text)
   unfolding lines
-  number_is part n p e =
+  number-is part n p e =
       let m : i - 0 ≡ i = omega arith in
       let l : lineEndings part ≡ lineEndings (take i text) = ap lineEndings (p ∙ ap (λ t. take t text) m) in
       omega (arith, e, l)
 
-  numbered : (n : ℕ) → n ≡ lineEndings (take i text) → block_of ρ i (lines_of (drop n flags) (drop i text)) ≡ answer
+  numbered : (n : ℕ) → n ≡ lineEndings (take i text) → blockOf ρ i (linesOf (drop n flags) (drop i text)) ≡ answer
   unfolding blockAt linesAt
-  numbered n e = ap (λ t. block_of ρ i (lines_of (drop t flags) (drop i text))) e
+  numbered n e = ap (λ t. blockOf ρ i (linesOf (drop t flags) (drop i text))) e
 
 some-line : (s : List ℕ) (n : ℕ) → n ≡ lines s → 1 ≤ n
 unfolding lines
@@ -74,5 +74,5 @@ overflow_sub-line c = some-line _ _ c.count_lines-line.ensures
 pub returns : goal.returns
 returns c = let a = c.args in
     c.block_at.ensures
-    ∙ numbered a.rules a.bulletin.now a.flags.now a.index _ (number_is a.rules a.bulletin.now a.flags.now a.index _ _ c.from_indices.ensures c.count_lines-line.ensures)
+    ∙ numbered a.rules a.bulletin.now a.flags.now a.index _ (number-is a.rules a.bulletin.now a.flags.now a.index _ _ c.from_indices.ensures c.count_lines-line.ensures)
     ∙ sym (refuses-nothing a.rules a.bulletin.now a.flags.now a.index _ c.bulletin_refusal-refusal.ensures c.if-refusal-ne0.false (ap not (sym c.is_line_start.ensures) ∙ c.if-not-is_line_start.false))

@@ -10,8 +10,8 @@ filter-requires c κs = search rules
 written-result-requires : tie.Need-written-result-requires
 written-result-requires c κs = search rules
 
-same_length : tie.Need-same-length
-same_length c = search rules
+same-length : tie.Need-same-length
+same-length c = search rules
 
 returns : tie.Need-returns
 returns c =
@@ -20,4 +20,4 @@ returns c =
 
 pub foringamo-filter-spec : {M : Type 1} → statement M
 foringamo-filter-spec =
-    tie.close (tie.spec filter-requires written-result-requires same_length returns)
+    tie.close (tie.spec filter-requires written-result-requires same-length returns)

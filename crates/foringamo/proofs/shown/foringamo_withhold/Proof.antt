@@ -10,8 +10,8 @@ withhold-requires c κs = search rules
 shown-result-requires : tie.Need-shown-result-requires
 shown-result-requires c κs = search rules
 
-same_length : tie.Need-same-length
-same_length c = search rules
+same-length : tie.Need-same-length
+same-length c = search rules
 
 returns : tie.Need-returns
 returns c =
@@ -19,4 +19,4 @@ returns c =
     (c.shown-result.ensures ∙ ap shownResult e.0, e.1)
 
 pub foringamo-withhold-spec : {M : Type 1} → statement M
-foringamo-withhold-spec = tie.close (tie.spec withhold-requires shown-result-requires same_length returns)
+foringamo-withhold-spec = tie.close (tie.spec withhold-requires shown-result-requires same-length returns)

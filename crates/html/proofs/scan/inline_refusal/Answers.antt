@@ -9,7 +9,7 @@ use borrow.Author.Tests.{lt-ltb, le-ltb}
 use Rattle.lexical.specs.Text.{limit}
 use Rattle.rules.specs.Search.{somewhere}
 use Rattle.rules.specs.Refusal.{blankFollows, inlineRefusal}
-use Rattle.rules.proofs.Refusals.{applies, passes, no_more}
+use Rattle.rules.proofs.Refusals.{applies, passes, no-more}
 use Rattle.html.proofs.scan.inline_refusal.Goals as goal
 
 module _ (text : List ℕ) (i k : ℕ) where
@@ -34,7 +34,7 @@ module _ (text : List ℕ) (i k : ℕ) where
 
         refuses-nothing : somewhere blankFollows text ≡ false → inlineRefusal text i k ≡ 0
         unfolding inlineRefusal
-        refuses-nothing h = passes _ 1 _ short ∙ passes _ 4 _ inside ∙ passes _ 5 _ small ∙ passes _ 6 _ h ∙ no_more
+        refuses-nothing h = passes _ 1 _ short ∙ passes _ 4 _ inside ∙ passes _ 5 _ small ∙ passes _ 6 _ h ∙ no-more
 
 pub returns-then-is_over_limit : goal.returns-then-is_over_limit
 returns-then-is_over_limit c = let a = c.args in sym (refuses-long a.text.now a.index a.carry (sym c.is_over_limit.ensures ∙ c.if-is_over_limit.true))

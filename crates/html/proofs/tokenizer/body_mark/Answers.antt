@@ -13,33 +13,33 @@ use Rattle.html.proofs.tokenizer.body_mark.Goals as goal
 abbrev others : List ℕ
 others = 0 ∷ 1 ∷ 2 ∷ 3 ∷ 5 ∷ 6 ∷ 7 ∷ 9 ∷ 10 ∷ 13 ∷ 14 ∷ 15 ∷ 16 ∷ 17 ∷ 18 ∷ 19 ∷ 20 ∷ 21 ∷ 23 ∷ 24 ∷ 25 ∷ []
 
-no_body : (st : StateName) → OneOf others (tag_of the_type st) → 0 ≡ bodyMark st
-no_body Start h = refl
-no_body Open h = refl
-no_body DeclarationOpen h = refl
-no_body CommentOpenInside h = refl
-no_body Comment h = absurd (miss others 4 tt h)
-no_body CommentClose h = refl
-no_body CommentEnd h = refl
-no_body CdataOpenInside h = refl
-no_body Cdata h = absurd (miss others 8 tt h)
-no_body CdataClose h = refl
-no_body CdataEnd h = refl
-no_body Declaration h = absurd (miss others 11 tt h)
-no_body Instruction h = absurd (miss others 12 tt h)
-no_body InstructionClose h = refl
-no_body TagCloseStart h = refl
-no_body TagClose h = refl
-no_body TagCloseBetween h = refl
-no_body TagOpen h = refl
-no_body TagOpenBetween h = refl
-no_body TagOpenAttributeName h = refl
-no_body TagOpenAttributeNameAfter h = refl
-no_body TagOpenAttributeValueBefore h = refl
-no_body (TagOpenAttributeValueQuoted m) h = absurd (miss others 22 tt h)
-no_body TagOpenAttributeValueQuotedAfter h = refl
-no_body TagOpenAttributeValueUnquoted h = refl
-no_body End h = refl
+no-body : (st : StateName) → OneOf others (tag_of the_type st) → 0 ≡ bodyMark st
+no-body Start h = refl
+no-body Open h = refl
+no-body DeclarationOpen h = refl
+no-body CommentOpenInside h = refl
+no-body Comment h = absurd (miss others 4 tt h)
+no-body CommentClose h = refl
+no-body CommentEnd h = refl
+no-body CdataOpenInside h = refl
+no-body Cdata h = absurd (miss others 8 tt h)
+no-body CdataClose h = refl
+no-body CdataEnd h = refl
+no-body Declaration h = absurd (miss others 11 tt h)
+no-body Instruction h = absurd (miss others 12 tt h)
+no-body InstructionClose h = refl
+no-body TagCloseStart h = refl
+no-body TagClose h = refl
+no-body TagCloseBetween h = refl
+no-body TagOpen h = refl
+no-body TagOpenBetween h = refl
+no-body TagOpenAttributeName h = refl
+no-body TagOpenAttributeNameAfter h = refl
+no-body TagOpenAttributeValueBefore h = refl
+no-body (TagOpenAttributeValueQuoted m) h = absurd (miss others 22 tt h)
+no-body TagOpenAttributeValueQuotedAfter h = refl
+no-body TagOpenAttributeValueUnquoted h = refl
+no-body End h = refl
 
 pub returns-in-Comment : goal.returns-in-Comment
 returns-in-Comment c = ap bodyMark (sym c.in-Comment.is)
@@ -57,4 +57,4 @@ pub returns-in-TagOpenAttributeValueQuoted : goal.returns-in-TagOpenAttributeVal
 returns-in-TagOpenAttributeValueQuoted c = ap bodyMark (sym c.in-TagOpenAttributeValueQuoted.is)
 
 pub returns-in_default : goal.returns-in_default
-returns-in_default c = no_body c.args.state c.??match.keys6
+returns-in_default c = no-body c.args.state c.??match.keys6

@@ -4,7 +4,7 @@ use lib.ListN.{length}
 use Rattle.rules.specs.Scan.{inlineAnswer}
 use Rattle.html.specs.declared.tokenizer.State.TheVariants.{Next, Ok, Nok}
 use Rattle.html.proofs.Body.{body-behind}
-use Rattle.html.proofs.Turn.{turn, ended, stop_is}
+use Rattle.html.proofs.Turn.{turn, ended, stop-is}
 use borrow.Author.Rules.{rules}
 use Rattle.html.proofs.tokenizer.run.Goals as goal
 
@@ -20,7 +20,7 @@ loop-index-preserved c = sym (body-behind _ _ _ _ _ _ c.body_end-index.ensures)
 
 pub returns-in-Ok : goal.returns-in-Ok
 returns-in-Ok c = let text = c.args.text.now in
-    stop_is text c.loop-index.index c.loop-index.size c.loop-index-test.true
+    stop-is text c.loop-index.index c.loop-index.size c.loop-index-test.true
     ∙ ap (inlineAnswer (length text)) (sym (turn _ _ _ _ _ Ok c.loop-index-test.true (sym c.in-Ok.is ∙ c.step.ensures)) ∙ c.loop-index.invariant)
 
 pub returns-in-Nok : goal.returns-in-Nok

@@ -1,9 +1,9 @@
 use Rattle.std.proofs.Common.{◌+◌, ◌-◌, ◌∙◌, arith}
-use Rattle.lexical.proofs.Lookup.{starts-long, no_name, part-rises, part-few, forward, inside, place_is}
+use Rattle.lexical.proofs.Lookup.{starts-long, no-name, part-rises, part-few, forward, inside, place-is}
 use Rattle.lexical.proofs.constant.lookup.Goals as goal
 
 pub returns-then-name-eq0 : goal.returns-then-name-eq0
-returns-then-name-eq0 c = no_name _ _ _ c.requires c.args.name.now c.if-name-eq0.true
+returns-then-name-eq0 c = no-name _ _ _ c.requires c.args.name.now c.if-name-eq0.true
 
 pub letter_places-places-requires : goal.letter_places-places-requires
 letter_places-places-requires c = starts-long _ _ _ c.requires
@@ -22,4 +22,4 @@ place_of-requires c = let table = c.requires in
     record { offsets_value = part-rises _ _ _ table from size; offsets_bound = part-few _ _ _ table from size (omega (arith, forward _ _ _ table _ _ _ places, inside _ _ _ table _ _ _ places)) }
 
 pub returns : goal.returns
-returns c = c.place_of.ensures ∙ place_is _ _ _ c.requires c.args.name.now _ _ c.letter_places-places.ensures c.if-name-eq0.false
+returns c = c.place_of.ensures ∙ place-is _ _ _ c.requires c.args.name.now _ _ c.letter_places-places.ensures c.if-name-eq0.false

@@ -1,5 +1,5 @@
 use Rattle.std.proofs.Common.{◌≡◌, ◌+◌, ◌-◌, sym, ◌∙◌, arith, rules}
-use Rattle.lexical.proofs.Names.{rises, within-table, hit, miss, no_more}
+use Rattle.lexical.proofs.Names.{rises, within-table, hit, miss, no-more}
 use Rattle.lexical.proofs.constant.place_of.Goals as goal
 
 pub loop-k-init : goal.loop-k-init
@@ -33,4 +33,4 @@ pub loop-k-preserved : goal.loop-k-preserved
 loop-k-preserved c = (omega arith, miss _ _ c.loop-k.k _ _ c.loop-k-test.true (sym c.same_lower.ensures ∙ c.if-same_lower.false) ∙ c.loop-k.invariant.1)
 
 pub returns : goal.returns
-returns c = sym (no_more _ _ c.loop-k.k _ _ c.loop-k-test.false) ∙ c.loop-k.invariant.1
+returns c = sym (no-more _ _ c.loop-k.k _ _ c.loop-k-test.false) ∙ c.loop-k.invariant.1

@@ -8,8 +8,8 @@ use borrow.Author.Rules.{rules}
 use Rattle.reader.proofs.html_flow.closes_line.Statement.{statement}
 use Rattle.reader.proofs.html_flow.closes_line.Tie as tie
 
-enum_told : tie.Need-enum-told
-enum_told c = search rules
+enum-told : tie.Need-enum-told
+enum-told c = search rules
 
 closes-line-requires : tie.Need-closes-line-requires
 closes-line-requires c κs = search rules
@@ -71,7 +71,7 @@ pub closes-line-spec : {M : Type 1} → statement M
 closes-line-spec =
     tie.close
     (tie.spec
-    enum_told
+    enum-told
     closes-line-requires
     enum-told-2
     meets-closer-requires

@@ -4,7 +4,7 @@ use mathlib.Core.Path.{◌≡◌, refl, sym, ◌∙◌, ap}
 use lib.ListN.{length, drop}
 use Rattle.flow.specs.ContinuationMachine.{meetsOf}
 use Rattle.flow.proofs.ContinuationTurn.{met, turn, ended}
-use Rattle.reader.specs.Lent.{line_of}
+use Rattle.reader.specs.Lent.{lineOf}
 use Rattle.reader.specs.declared.html_flow.Line.{Line}
 use borrow.Author.Rules.{rules}
 use Rattle.reader.proofs.html_flow.meets_closer.Statement.{statement}
@@ -38,7 +38,7 @@ loop-less : tie.Need-loop-smaller invariant-loop decreases-loop
 loop-less c = search rules
 
 loop-again : tie.Need-loop-preserved invariant-loop decreases-loop
-unfolding line_of
+unfolding lineOf
 loop-again c =
     let l = c.before.before.before.before in
     sym (turn _ _ _ _ _ _ l.loop-test.true (ap (λ (t : Line). t.name) c.stepped.ensures) (sym c.before.before.before.is-close.ensures ∙ c.before.before.if1.false)) ∙ l.before.loop.invariant

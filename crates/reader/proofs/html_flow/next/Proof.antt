@@ -1,5 +1,5 @@
 use mathlib.Core.Path.{ap}
-use Rattle.reader.specs.Lent.{line_of, line}
+use Rattle.reader.specs.Lent.{lineOf, line}
 use borrow.Author.Rules.{rules}
 use Rattle.reader.proofs.html_flow.next.Statement.{statement}
 use Rattle.reader.proofs.html_flow.next.Tie as tie
@@ -8,7 +8,7 @@ continuation-step-requires : tie.Need-continuation-step-requires
 continuation-step-requires c κs = search rules
 
 returns : tie.Need-returns
-unfolding line_of
+unfolding lineOf
 returns c = ap (line _) c.continuation-step.ensures
 
 pub next-spec : {M : Type 1} → statement M

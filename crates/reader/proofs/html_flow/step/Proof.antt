@@ -46,7 +46,7 @@ use Rattle.flow.specs.contracts.html_flow.Kind as E
 use Rattle.flow.proofs.html_flow.Kind.TheLaws as E'
 use Rattle.flow.specs.contracts.html_flow.ContinuationName as O
 use Rattle.flow.proofs.html_flow.ContinuationName.TheLaws as O'
-use Rattle.reader.specs.Lent.{line_of}
+use Rattle.reader.specs.Lent.{lineOf}
 use Rattle.reader.specs.declared.html_flow.Line.{Line}
 use Rattle.reader.proofs.Lent.{vg, passed}
 use Rattle.reader.specs.contracts.html_flow.Line as T
@@ -101,7 +101,7 @@ module _ {M : Type 1} {𝓤 : Ura M} (𝓛 : Logic 𝓤) (at_mem : Memory → SP
   abbrev Post : Val → SProp 𝓤
   Post = (walk_of 𝓛 f.ended stayed (f.clauses 𝓛 at_mem run)).post (((κ, tt), (q, tt), tt, x, at), tt)
 
-  exits : (r : Line) → r ≡ line_of ρ h n → ent 𝓤 (sep 𝓤 (A.obs γ ((T.the_row).coded.code r)) (sep 𝓤 (A.bor κ (Body (mem T.the_row) b o γ)) (A.lft κ q))) (Post vunit)
+  exits : (r : Line) → r ≡ lineOf ρ h n → ent 𝓤 (sep 𝓤 (A.obs γ ((T.the_row).coded.code r)) (sep 𝓤 (A.bor κ (Body (mem T.the_row) b o γ)) (A.lft κ q))) (Post vunit)
   exits r e =
       qed 𝓛 (‵ (fobs γ ((T.the_row).coded.code r)) ∷ ‵ (fbor κ (Body (mem T.the_row) b o γ)) ∷ ‵ (flft κ q) ∷ []) ∵
       suffices ! _ (ends_at 𝓛 f.ended stayed (f.clauses 𝓛 at_mem run) (((κ, tt), (q, tt), tt, x, at), tt) vunit tt (r, (tt, (tt, tt))) (tt, (tt, (tt, tt)))) $ says ! e $ nothing ! $ move ! (3 ∷ 0 ∷ []) $ join ! $
@@ -119,8 +119,8 @@ module _ {M : Type 1} {𝓤 : Ura M} (𝓛 : Logic 𝓤) (at_mem : Memory → SP
       use1 𝓛 (‵ (owns (T.the_row ∷ G.the_row ∷ u8 ∷ []) (h, (ρ, (n, tt))) (mach h ∷ [], (vg ρ ∷ [], (vint w8 n ∷ [], tt))))) (passed 𝓛 ρ n ρ-is n-fits T.the_row h (mach h ∷ [])) $ nothing ! $ join ! $ frame ! $ done !
 
   -- of its `ensured`, the clause alone
-  said : (r : Line) → ent 𝓤 (ensured 𝓛 next.ended (next.clauses 𝓛 at_mem run) tt (h, (ρ, (n, tt))) tt r) (fact 𝓤 (r ≡ line_of ρ h n))
-  said r = ex_e 𝓤 _ (λ ws. snd∗ 𝓤 (sem 𝓛 (lasts next.ended tt (h, (ρ, (n, tt))) ws)) (fact 𝓤 (r ≡ line_of ρ h n)))
+  said : (r : Line) → ent 𝓤 (ensured 𝓛 next.ended (next.clauses 𝓛 at_mem run) tt (h, (ρ, (n, tt))) tt r) (fact 𝓤 (r ≡ lineOf ρ h n))
+  said r = ex_e 𝓤 _ (λ ws. snd∗ 𝓤 (sem 𝓛 (lasts next.ended tt (h, (ρ, (n, tt))) ws)) (fact 𝓤 (r ≡ lineOf ρ h n)))
 
   module _ (C : Calls 𝓤 H) (Λ : Loops 𝓤 H) (fm : FmC 𝓤 H 𝓛.laws C) (known : Triple 𝓤 (C #html-flow·next) (Next 𝓛 at_mem run)) where
     walk : ent 𝓤 (on_entry 𝓛 f.signature (κ, tt) (q, tt) x at) (WpFn 𝓤 H C Λ code.function (vptr b o ∷ vg ρ ∷ vint w8 n ∷ []) Post)
@@ -131,7 +131,7 @@ module _ {M : Type 1} {𝓤 : Ura M} (𝓛 : Logic 𝓤) (at_mem : Memory → SP
         alloc1 ! (λ l₀. alloc1 ! (λ l₁. alloc1 ! (λ l₂. alloc1 ! (λ l₃. alloc1 ! (λ l₄. alloc1 ! (λ l₅. alloc1 ! (λ l₆. alloc1 ! (λ l₇. alloc0 ! $ params1 ! $
         pass1 ! (init ! 12 refl (tt, tt)) $ pass1 ! (init ! 10 refl ((LL.lawful G.the_type G'.the_laws 𝓛).typed ρ _ ρ-is).0) $ pass1 ! (init ! 8 refl (tt, record { fits = n-fits })) $ pass0 ! $
         move ! (16 ∷ 17 ∷ 18 ∷ []) $ opens ! tt T.the_row {h = h} b o (λ vs. spelt ! T.the_row (Is T.the_row) (shows 𝓛 T.the_row) (LL.vals T.the_type T'.the_laws) (LL.tells T.the_type T'.the_laws) full_share h vs b o $
-        use1 𝓛 (‵ (fat full_share T'.mir b o (mach h))) (𝓛.laws.raw_at full_share T'.mir b o (mach h)) $
+        use1 𝓛 (‵ (fat full_share T'.mir b o (mach h))) (𝓛.laws.raw-at full_share T'.mir b o (mach h)) $
         move ! (1 ∷ []) $ peeks ! T.the_row (Is T.the_row) (shows 𝓛 T.the_row) h (mach h ∷ []) (λ was. move ! (1 ∷ 0 ∷ []) $
         -- [the Line's cell; what it owns; the open borrow; obs; auth; _7; …; _0; …]
         assigns ! (of_opd ! (load ! (from ! (hop ! (look ! 17 refl) (fld ! refl (stop !)))) (look_in ! 0 (sub ! 0 refl (whole !))))) (from ! (stop !)) (init ! 9 refl ((EL.lawful E.the_type E'.the_laws 𝓛 tt).typed h.kind _ (kind-is h (mach h) was)).0) $
@@ -140,7 +140,7 @@ module _ {M : Type 1} {𝓤 : Ura M} (𝓛 : Logic 𝓤) (at_mem : Memory → SP
         move ! (1 ∷ []) $ use1 𝓛 (raw ((Next 𝓛 at_mem run).pre to)) asked $
         calls_at ! fm (Next 𝓛 at_mem run) known to (and_then ! (load ! (from ! (stop !)) (look ! 5 refl)) (and_then ! (load ! (from ! (stop !)) (look ! 15 refl)) (and_then ! (load ! (from ! (stop !)) (look ! 13 refl)) (no_more !)))) (λ v.
         use1 𝓛 (later (some (λ (r : Line). (‵ ftrue ⊛ ‵ ((T.the_row).own_val r (v ∷ []))) ⊛ raw (ensured 𝓛 next.ended (next.clauses 𝓛 at_mem run) tt (h, (ρ, (n, tt))) tt r)))) (id⊢ 𝓤 _) $ await ! tt $ pick ! (λ r.
-        split ! $ move ! (1 ∷ []) $ use1 𝓛 (raw (fact 𝓤 (r ≡ line_of ρ h n))) (said r) $ heard ! (r ≡ line_of ρ h n) (λ e. split ! $ drop ! $
+        split ! $ move ! (1 ∷ []) $ use1 𝓛 (raw (fact 𝓤 (r ≡ lineOf ρ h n))) (said r) $ heard ! (r ≡ lineOf ρ h n) (λ e. split ! $ drop ! $
         peeks ! T.the_row (Is T.the_row) (shows 𝓛 T.the_row) r (v ∷ []) (λ is.
         -- [what the new Line owns; the Line's cell; the open borrow; obs; auth; _7; …]
         land ! (from ! (stop !)) (init ! 11 refl ((LL.lawful T.the_type T'.the_laws 𝓛).typed r _ is).0) $
@@ -164,15 +164,15 @@ module _ {M : Type 1} {𝓤 : Ura M} (𝓛 : Logic 𝓤) (at_mem : Memory → SP
   goes : AllGo 𝓛 1 (f.signature).params (f.ended).kept stayed
   goes = (Goes-ref 𝓛 1 0 tt (plain (λ _. T.the_row)), (Goes-none 𝓛 1 (λ _. G.the_row) yes (λ κs x f. refl), (Goes-none 𝓛 1 (λ _. u8) yes (λ κs x f. refl), tt)))
 
-f_meets : {M : Type 1} {𝓤 : Ura M} (𝓛 : Logic 𝓤) → (at_mem : Memory → SProp 𝓤) (run : Routine → Fun 𝓤) (𝓣 : Tables 𝓤 𝓛.H) → Triple 𝓤 (𝓣.C #html-flow·next) (Next 𝓛 at_mem run)
+f-meets : {M : Type 1} {𝓤 : Ura M} (𝓛 : Logic 𝓤) → (at_mem : Memory → SProp 𝓤) (run : Routine → Fun 𝓤) (𝓣 : Tables 𝓤 𝓛.H) → Triple 𝓤 (𝓣.C #html-flow·next) (Next 𝓛 at_mem run)
     → Meets 𝓛 f.signature (WpFn 𝓤 𝓛.H 𝓣.C 𝓣.Λ code.function) (f.spec 𝓛 at_mem run)
-f_meets {𝓤 = 𝓤} 𝓛 at_mem run 𝓣 known = walk_Meets 𝓛 f.ended stayed (goes 𝓛 at_mem run) (f.clauses 𝓛 at_mem run) (WpFn 𝓤 𝓛.H 𝓣.C 𝓣.Λ code.function) (WpFn-mono 𝓤 𝓛.H 𝓛.laws 𝓣 code.function)
+f-meets {𝓤 = 𝓤} 𝓛 at_mem run 𝓣 known = walk_Meets 𝓛 f.ended stayed (goes 𝓛 at_mem run) (f.clauses 𝓛 at_mem run) (WpFn 𝓤 𝓛.H 𝓣.C 𝓣.Λ code.function) (WpFn-mono 𝓤 𝓛.H 𝓛.laws 𝓣 code.function)
     (f-walks 𝓛 at_mem run 𝓣.C 𝓣.Λ (fm_of 𝓤 𝓛.H 𝓛.laws 𝓣) known)
 
-pub step_spec : {M : Type 1} → stated.statement M
+pub step-spec : {M : Type 1} → stated.statement M
 unfolding code.routine tables_of
-step_spec 𝓤 𝓛 𝓜 𝓡 =
+step-spec 𝓤 𝓛 𝓜 𝓡 =
     entered 𝓤 𝓛.H (triple_of 𝓛 f.signature (f.spec 𝓛 𝓜.mem 𝓡.run))
     (tables 𝓤 𝓛.H 𝓜 𝓡 code.env).C (tables 𝓤 𝓛.H 𝓜 𝓡 code.env).Λ #html-flow·step code.function (code.unfolded 𝓤 𝓛.H 𝓜 𝓡)
-    (f_meets 𝓛 𝓜.mem 𝓡.run (tables_of 𝓤 𝓛.H 𝓜 (tables 𝓤 𝓛.H 𝓜 𝓡 code.env))
+    (f-meets 𝓛 𝓜.mem 𝓡.run (tables_of 𝓤 𝓛.H 𝓜 (tables 𝓤 𝓛.H 𝓜 𝓡 code.env))
     (cited 𝓤 𝓛.H (Next 𝓛 𝓜.mem 𝓡.run) 𝓜 𝓡 code.env #html-flow·next next-def.routine code.calls-reader::html-flow::next (next-thm.met 𝓤 𝓛 𝓜 𝓡)))

@@ -33,7 +33,7 @@ use denote.Exit.{yes}
 use Rattle.rules.specs.declared.Rules.{Rules}
 use Rattle.rules.specs.contracts.Rules as G
 use Rattle.rules.proofs.Rules.TheLaws as G'
-use Rattle.reader.specs.Lent.{line_of}
+use Rattle.reader.specs.Lent.{lineOf}
 use Rattle.reader.specs.declared.html_flow.Line.{Line}
 use Rattle.reader.proofs.Lent.{vg, passed}
 use Rattle.reader.proofs.LentCall.{lent}
@@ -72,7 +72,7 @@ module _ {M : Type 1} {𝓤 : Ura M} (𝓛 : Logic 𝓤) (at_mem : Memory → SP
   abbrev Post : Val → SProp 𝓤
   Post = (walk_of 𝓛 f.ended stayed (f.clauses 𝓛 at_mem run)).post ((tt, tt, tt, x, at), tt)
 
-  exits : (r : Line) → r ≡ line_of ρ h n → ent 𝓤 (⋆ 𝓛 (‵ ((T.the_row).own_val r (mach r ∷ [])) ∷ ‵ (owns (T.the_row ∷ G.the_row ∷ u8 ∷ []) x at) ∷ [])) (Post (mach r))
+  exits : (r : Line) → r ≡ lineOf ρ h n → ent 𝓤 (⋆ 𝓛 (‵ ((T.the_row).own_val r (mach r ∷ [])) ∷ ‵ (owns (T.the_row ∷ G.the_row ∷ u8 ∷ []) x at) ∷ [])) (Post (mach r))
   exits r e =
       qed 𝓛 (‵ ((T.the_row).own_val r (mach r ∷ [])) ∷ ‵ (owns (T.the_row ∷ G.the_row ∷ u8 ∷ []) x at) ∷ []) ∵
       suffices ! _ (ends_at 𝓛 f.ended stayed (f.clauses 𝓛 at_mem run) ((tt, tt, tt, x, at), tt) (mach r) r (tt, (tt, (tt, tt))) (tt, (tt, (tt, tt)))) $ says ! e $
@@ -101,7 +101,7 @@ module _ {M : Type 1} {𝓤 : Ura M} (𝓛 : Logic 𝓤) (at_mem : Memory → SP
   module _ (C : Calls 𝓤 H) (Λ : Loops 𝓤 H) (fm : FmC 𝓤 H 𝓛.laws C) (known : Triple 𝓤 (C #html-flow·step) (Step 𝓛 at_mem run)) where
     walk : Is T.the_row h (mach h ∷ []) → ent 𝓤 (on_entry 𝓛 f.signature tt tt x at) (WpFn 𝓤 H C Λ code.function (mach h ∷ vg ρ ∷ vint w8 n ∷ []) Post)
     walk was =
-        lent-call.walk 𝓛 T.the_type T'.the_laws T'.the_plain #html-flow·step h (line_of ρ h n) ρ n was ρ-is n-fits C Λ fm (λ l ν δ. (Step 𝓛 at_mem run).post (to l ν δ)) Last
+        lent-call.walk 𝓛 T.the_type T'.the_laws T'.the_plain #html-flow·step h (lineOf ρ h n) ρ n was ρ-is n-fits C Λ fm (λ l ν δ. (Step 𝓛 at_mem run).post (to l ν δ)) Last
         (λ l ν δ. via 𝓤 _ (asked l ν δ) (known (to l ν δ))) (λ l ν δ w. id⊢ 𝓤 _) last Post exits
 
 module _ {M : Type 1} {𝓤 : Ura M} (𝓛 : Logic 𝓤) (at_mem : Memory → SProp 𝓤) (run : Routine → Fun 𝓤) where
@@ -114,9 +114,9 @@ module _ {M : Type 1} {𝓤 : Ura M} (𝓛 : Logic 𝓤) (at_mem : Memory → SP
   goes : AllGo 𝓛 0 (f.signature).params (f.ended).kept stayed
   goes = (Goes-none 𝓛 0 (λ _. T.the_row) yes (λ κs x f. refl), (Goes-none 𝓛 0 (λ _. G.the_row) yes (λ κs x f. refl), (Goes-none 𝓛 0 (λ _. u8) yes (λ κs x f. refl), tt)))
 
-f_meets : {M : Type 1} {𝓤 : Ura M} (𝓛 : Logic 𝓤) → (at_mem : Memory → SProp 𝓤) (run : Routine → Fun 𝓤) (𝓣 : Tables 𝓤 𝓛.H) → Triple 𝓤 (𝓣.C #html-flow·step) (Step 𝓛 at_mem run)
+f-meets : {M : Type 1} {𝓤 : Ura M} (𝓛 : Logic 𝓤) → (at_mem : Memory → SProp 𝓤) (run : Routine → Fun 𝓤) (𝓣 : Tables 𝓤 𝓛.H) → Triple 𝓤 (𝓣.C #html-flow·step) (Step 𝓛 at_mem run)
     → Meets 𝓛 f.signature (WpFn 𝓤 𝓛.H 𝓣.C 𝓣.Λ code.function) (f.spec 𝓛 at_mem run)
-f_meets {𝓤 = 𝓤} 𝓛 at_mem run 𝓣 known = walk_Meets 𝓛 f.ended stayed (goes 𝓛 at_mem run) (f.clauses 𝓛 at_mem run) (WpFn 𝓤 𝓛.H 𝓣.C 𝓣.Λ code.function) (WpFn-mono 𝓤 𝓛.H 𝓛.laws 𝓣 code.function)
+f-meets {𝓤 = 𝓤} 𝓛 at_mem run 𝓣 known = walk_Meets 𝓛 f.ended stayed (goes 𝓛 at_mem run) (f.clauses 𝓛 at_mem run) (WpFn 𝓤 𝓛.H 𝓣.C 𝓣.Λ code.function) (WpFn-mono 𝓤 𝓛.H 𝓛.laws 𝓣 code.function)
     (f-walks 𝓛 at_mem run 𝓣.C 𝓣.Λ (fm_of 𝓤 𝓛.H 𝓛.laws 𝓣) known)
 
 pub stepped-spec : {M : Type 1} → stated.statement M
@@ -124,5 +124,5 @@ unfolding code.routine tables_of
 stepped-spec 𝓤 𝓛 𝓜 𝓡 =
     entered 𝓤 𝓛.H (triple_of 𝓛 f.signature (f.spec 𝓛 𝓜.mem 𝓡.run))
     (tables 𝓤 𝓛.H 𝓜 𝓡 code.env).C (tables 𝓤 𝓛.H 𝓜 𝓡 code.env).Λ #html-flow·stepped code.function (code.unfolded 𝓤 𝓛.H 𝓜 𝓡)
-    (f_meets 𝓛 𝓜.mem 𝓡.run (tables_of 𝓤 𝓛.H 𝓜 (tables 𝓤 𝓛.H 𝓜 𝓡 code.env))
+    (f-meets 𝓛 𝓜.mem 𝓡.run (tables_of 𝓤 𝓛.H 𝓜 (tables 𝓤 𝓛.H 𝓜 𝓡 code.env))
     (cited 𝓤 𝓛.H (Step 𝓛 𝓜.mem 𝓡.run) 𝓜 𝓡 code.env #html-flow·step step-def.routine code.calls-reader::html-flow::step (step_thm.met 𝓤 𝓛 𝓜 𝓡)))

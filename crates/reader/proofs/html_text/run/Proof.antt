@@ -3,15 +3,15 @@ use Prim.Native.Nat.{◌-◌}
 use mathlib.Core.Path.{◌≡◌, refl, sym, ◌∙◌, ap}
 use lib.ListN.{length, drop}
 use Rattle.rules.specs.Scan.{inlineAnswer}
-use Rattle.html.specs.TextMachine.{run_of}
-use Rattle.html.proofs.Turn.{ended, stop_is}
+use Rattle.html.specs.TextMachine.{runOf}
+use Rattle.html.proofs.Turn.{ended, stop-is}
 use Rattle.reader.proofs.Turns.{going, taken, lacking}
 use borrow.Author.Rules.{rules}
 use Rattle.reader.proofs.html_text.run.Statement.{statement}
 use Rattle.reader.proofs.html_text.run.Tie as tie
 
 abbrev invariant-loop : tie.invariant-loop
-invariant-loop rules text from carry state₀ size₀ index₀ state size index = run_of rules state size (drop index text) ≡ run_of rules state₀ size₀ (drop index₀ text)
+invariant-loop rules text from carry state₀ size₀ index₀ state size index = runOf rules state size (drop index text) ≡ runOf rules state₀ size₀ (drop index₀ text)
 
 abbrev decreases-loop : tie.decreases-loop
 decreases-loop rules text from carry state₀ size₀ index₀ state size index = length text - index
@@ -25,8 +25,8 @@ shared-slice-read-stepped c = search rules
 stepped-requires : tie.Need-stepped-requires invariant-loop decreases-loop
 stepped-requires c κs = search rules
 
-enum_told : tie.Need-enum-told invariant-loop decreases-loop
-enum_told c = search rules
+enum-told : tie.Need-enum-told invariant-loop decreases-loop
+enum-told c = search rules
 
 enum-told-2 : tie.Need-enum-told-2 invariant-loop decreases-loop
 enum-told-2 c = search rules
@@ -38,7 +38,7 @@ returns : tie.Need-returns invariant-loop decreases-loop
 returns c =
     let l = c.before.before.before.before in
     let text = l.before.before.before.args.text.now in
-    stop_is text l.before.loop.index l.before.loop.size l.loop-test.true
+    stop-is text l.before.loop.index l.before.loop.size l.loop-test.true
     ∙ ap (inlineAnswer (length text)) (sym (taken _ _ _ _ _ _ l.loop-test.true c.before.before.stepped.ensures c.enum-told2.given.1) ∙ l.before.loop.invariant)
 
 enum-told-3 : tie.Need-enum-told-3 invariant-loop decreases-loop
@@ -59,15 +59,15 @@ loop-less c = search rules
 loop-again : tie.Need-loop-preserved invariant-loop decreases-loop
 loop-again c =
     let l = c.before.before.before.before in
-    sym (going _ _ _ _ _ _ l.loop-test.true c.before.before.stepped.ensures c.enum_told.given.1) ∙ l.before.loop.invariant
+    sym (going _ _ _ _ _ _ l.loop-test.true c.before.before.stepped.ensures c.enum-told.given.1) ∙ l.before.loop.invariant
 
 returns-3 : tie.Need-returns-3 invariant-loop decreases-loop
 returns-3 c =
     let text = c.before.before.before.args.text.now in
     ap (inlineAnswer (length text)) (sym (ended _ _ _ _ _ c.loop-test.false) ∙ c.before.loop.invariant)
 
-pub run_spec : {M : Type 1} → statement M
-run_spec =
+pub run-spec : {M : Type 1} → statement M
+run-spec =
     tie.close
     (tie.spec
     invariant-loop
@@ -75,7 +75,7 @@ run_spec =
     loop-holds
     shared-slice-read-stepped
     stepped-requires
-    enum_told
+    enum-told
     enum-told-2
     add-stop
     returns

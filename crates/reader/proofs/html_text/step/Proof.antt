@@ -78,8 +78,8 @@ mach r = LL.val T.the_type T'.the_laws r
 state-is : (r : Scanner) (v : Val) → Is T.the_row r (v ∷ []) → Is E.the_row r.state (EL.vals E.the_type E'.the_laws r.state)
 state-is r v is = (LL.owed T.the_type T'.the_laws r (v ∷ []) is).0
 
-size_fits : (r : Scanner) (v : Val) → Is T.the_row r (v ∷ []) → r.size < 2 ^ 8
-size_fits r v is = (LL.owed T.the_type T'.the_laws r (v ∷ []) is).1.0.1
+size-fits : (r : Scanner) (v : Val) → Is T.the_row r (v ∷ []) → r.size < 2 ^ 8
+size-fits r v is = (LL.owed T.the_type T'.the_laws r (v ∷ []) is).1.0.1
 
 status-is : (r : Scanner) (v : Val) → Is T.the_row r (v ∷ []) → Is O.the_row r.status (EL.vals O.the_type O'.the_laws r.status)
 status-is r v is = (LL.owed T.the_type T'.the_laws r (v ∷ []) is).1.1.0
@@ -134,11 +134,11 @@ module _ {M : Type 1} {𝓤 : Ura M} (𝓛 : Logic 𝓤) (at_mem : Memory → SP
         alloc1 ! (λ l₀. alloc1 ! (λ l₁. alloc1 ! (λ l₂. alloc1 ! (λ l₃. alloc1 ! (λ l₄. alloc1 ! (λ l₅. alloc1 ! (λ l₆. alloc1 ! (λ l₇. alloc1 ! (λ l₈. alloc0 ! $ params1 ! $
         pass1 ! (init ! 14 refl (tt, tt)) $ pass1 ! (init ! 12 refl ((LL.lawful G.the_type G'.the_laws 𝓛).typed ρ _ ρ-is).0) $ pass1 ! (init ! 10 refl (tt, record { fits = n-fits })) $ pass0 ! $
         move ! (18 ∷ 19 ∷ 20 ∷ []) $ opens ! tt T.the_row {h = h} b o (λ vs. spelt ! T.the_row (Is T.the_row) (shows 𝓛 T.the_row) (LL.vals T.the_type T'.the_laws) (LL.tells T.the_type T'.the_laws) full_share h vs b o $
-        use1 𝓛 (‵ (fat full_share T'.mir b o (mach h))) (𝓛.laws.raw_at full_share T'.mir b o (mach h)) $
+        use1 𝓛 (‵ (fat full_share T'.mir b o (mach h))) (𝓛.laws.raw-at full_share T'.mir b o (mach h)) $
         move ! (1 ∷ []) $ peeks ! T.the_row (Is T.the_row) (shows 𝓛 T.the_row) h (mach h ∷ []) (λ was. move ! (1 ∷ 0 ∷ []) $
         -- [the Scanner's cell; what it owns; the open borrow; obs; auth; _8; …; _0; …]
         assigns ! (of_opd ! (load ! (from ! (hop ! (look ! 19 refl) (fld ! refl (stop !)))) (look_in ! 0 (sub ! 0 refl (whole !))))) (from ! (stop !)) (init ! 11 refl ((EL.lawful E.the_type E'.the_laws 𝓛 tt).typed h.state _ (state-is h (mach h) was)).0) $
-        assigns ! (of_opd ! (load ! (from ! (hop ! (look ! 19 refl) (fld ! refl (stop !)))) (look_in ! 0 (sub ! 1 refl (whole !))))) (from ! (stop !)) (init ! 9 refl (tt, record { fits = size_fits h (mach h) was })) $
+        assigns ! (of_opd ! (load ! (from ! (hop ! (look ! 19 refl) (fld ! refl (stop !)))) (look_in ! 0 (sub ! 1 refl (whole !))))) (from ! (stop !)) (init ! 9 refl (tt, record { fits = size-fits h (mach h) was })) $
         assigns ! (of_opd ! (load ! (from ! (hop ! (look ! 19 refl) (fld ! refl (stop !)))) (look_in ! 0 (sub ! 2 refl (whole !))))) (from ! (stop !)) (init ! 7 refl ((EL.lawful O.the_type O'.the_laws 𝓛 tt).typed h.status _ (status-is h (mach h) was)).0) $
         assigns ! (agg ! (and_then ! (load ! (from ! (stop !)) (look ! 11 refl)) (and_then ! (load ! (from ! (stop !)) (look ! 9 refl)) (and_then ! (load ! (from ! (stop !)) (look ! 7 refl)) (no_more !))))) (from ! (stop !)) (init ! 5 refl ((LL.lawful T.the_type T'.the_laws 𝓛).typed h _ was).0) $
         move ! (1 ∷ []) $ use1 𝓛 (raw ((Next 𝓛 at_mem run).pre to)) asked $
@@ -150,7 +150,7 @@ module _ {M : Type 1} {𝓤 : Ura M} (𝓛 : Logic 𝓤) (at_mem : Memory → SP
         land ! (from ! (stop !)) (init ! 13 refl ((LL.lawful T.the_type T'.the_laws 𝓛).typed r _ is).0) $
         rewrite ! 13 (λ (u : Val). ‵ (fat full_share T'.mir l₄ 0 u)) (spelled r v is) refl $ rewrite ! 0 (λ (u : Val). ‵ ((T.the_row).own_val r (u ∷ []))) (spelled r v is) refl $
         assigns ! (of_opd ! (load ! (from ! (fld ! refl (stop !))) (look_in ! 13 (sub ! 0 refl (whole !))))) (from ! (hop ! (look ! 19 refl) (fld ! refl (stop !)))) (store_in ! 1 (sub ! 0 refl (whole !)) ((EL.lawful E.the_type E'.the_laws 𝓛 tt).typed r.state _ (state-is r v is)).0) $
-        assigns ! (of_opd ! (load ! (from ! (fld ! refl (stop !))) (look_in ! 13 (sub ! 1 refl (whole !))))) (from ! (hop ! (look ! 19 refl) (fld ! refl (stop !)))) (store_in ! 1 (sub ! 1 refl (whole !)) (tt, record { fits = size_fits r v is })) $
+        assigns ! (of_opd ! (load ! (from ! (fld ! refl (stop !))) (look_in ! 13 (sub ! 1 refl (whole !))))) (from ! (hop ! (look ! 19 refl) (fld ! refl (stop !)))) (store_in ! 1 (sub ! 1 refl (whole !)) (tt, record { fits = size-fits r v is })) $
         assigns ! (of_opd ! (load ! (from ! (fld ! refl (stop !))) (look_in ! 13 (sub ! 2 refl (whole !))))) (from ! (hop ! (look ! 19 refl) (fld ! refl (stop !)))) (store_in ! 1 (sub ! 2 refl (whole !)) ((EL.lawful O.the_type O'.the_laws 𝓛 tt).typed r.status _ (status-is r v is)).0) $
         assigns ! (of_opd ! (unit_lit !)) (from ! (stop !)) (init ! 21 refl (tt, tt)) $
         move ! (1 ∷ []) $ use1 𝓛 (‵ (cell_at full_share (T.the_row).mir (mach r ∷ []) b o)) (𝓛.laws.at_raw full_share T'.mir b o (mach r)) $
@@ -169,15 +169,15 @@ module _ {M : Type 1} {𝓤 : Ura M} (𝓛 : Logic 𝓤) (at_mem : Memory → SP
   goes : AllGo 𝓛 1 (f.signature).params (f.ended).kept stayed
   goes = (Goes-ref 𝓛 1 0 tt (plain (λ _. T.the_row)), (Goes-none 𝓛 1 (λ _. G.the_row) yes (λ κs x f. refl), (Goes-none 𝓛 1 (λ _. u8) yes (λ κs x f. refl), tt)))
 
-f_meets : {M : Type 1} {𝓤 : Ura M} (𝓛 : Logic 𝓤) → (at_mem : Memory → SProp 𝓤) (run : Routine → Fun 𝓤) (𝓣 : Tables 𝓤 𝓛.H) → Triple 𝓤 (𝓣.C #html-text·next) (Next 𝓛 at_mem run)
+f-meets : {M : Type 1} {𝓤 : Ura M} (𝓛 : Logic 𝓤) → (at_mem : Memory → SProp 𝓤) (run : Routine → Fun 𝓤) (𝓣 : Tables 𝓤 𝓛.H) → Triple 𝓤 (𝓣.C #html-text·next) (Next 𝓛 at_mem run)
     → Meets 𝓛 f.signature (WpFn 𝓤 𝓛.H 𝓣.C 𝓣.Λ code.function) (f.spec 𝓛 at_mem run)
-f_meets {𝓤 = 𝓤} 𝓛 at_mem run 𝓣 known = walk_Meets 𝓛 f.ended stayed (goes 𝓛 at_mem run) (f.clauses 𝓛 at_mem run) (WpFn 𝓤 𝓛.H 𝓣.C 𝓣.Λ code.function) (WpFn-mono 𝓤 𝓛.H 𝓛.laws 𝓣 code.function)
+f-meets {𝓤 = 𝓤} 𝓛 at_mem run 𝓣 known = walk_Meets 𝓛 f.ended stayed (goes 𝓛 at_mem run) (f.clauses 𝓛 at_mem run) (WpFn 𝓤 𝓛.H 𝓣.C 𝓣.Λ code.function) (WpFn-mono 𝓤 𝓛.H 𝓛.laws 𝓣 code.function)
     (f-walks 𝓛 at_mem run 𝓣.C 𝓣.Λ (fm_of 𝓤 𝓛.H 𝓛.laws 𝓣) known)
 
-pub step_spec : {M : Type 1} → stated.statement M
+pub step-spec : {M : Type 1} → stated.statement M
 unfolding code.routine tables_of
-step_spec 𝓤 𝓛 𝓜 𝓡 =
+step-spec 𝓤 𝓛 𝓜 𝓡 =
     entered 𝓤 𝓛.H (triple_of 𝓛 f.signature (f.spec 𝓛 𝓜.mem 𝓡.run))
     (tables 𝓤 𝓛.H 𝓜 𝓡 code.env).C (tables 𝓤 𝓛.H 𝓜 𝓡 code.env).Λ #html-text·step code.function (code.unfolded 𝓤 𝓛.H 𝓜 𝓡)
-    (f_meets 𝓛 𝓜.mem 𝓡.run (tables_of 𝓤 𝓛.H 𝓜 (tables 𝓤 𝓛.H 𝓜 𝓡 code.env))
+    (f-meets 𝓛 𝓜.mem 𝓡.run (tables_of 𝓤 𝓛.H 𝓜 (tables 𝓤 𝓛.H 𝓜 𝓡 code.env))
     (cited 𝓤 𝓛.H (Next 𝓛 𝓜.mem 𝓡.run) 𝓜 𝓡 code.env #html-text·next next-def.routine code.calls-reader::html-text::next (next-thm.met 𝓤 𝓛 𝓜 𝓡)))

@@ -172,11 +172,11 @@ module _ {M : Type 1} {𝓤 : Ura M} (𝓛 : Logic 𝓤) (mem : Memory → SProp
   new-said r = ex_e 𝓤 _ (λ ws. snd∗ 𝓤 (sem 𝓛 (lasts new-of.ended (κ, tt) (s, tt) ws)) (fact 𝓤 (Is-new r)))
 
   -- the call of `at`, at the reader r with the machine value u
-  abbrev to_at : Reader → Val → (At 𝓛 mem run).Ghost
-  to_at r u = (((κ, tt), (q, tt), tt, (r, (n, tt)), (u ∷ [], (vint w64 n ∷ [], tt))), tt)
+  abbrev to-at : Reader → Val → (At 𝓛 mem run).Ghost
+  to-at r u = (((κ, tt), (q, tt), tt, (r, (n, tt)), (u ∷ [], (vint w64 n ∷ [], tt))), tt)
 
-  goes_at : (r : Reader) (u : Val) → ent 𝓤 (⋆ 𝓛 (‵ (OwnR r u) ∷ (‵ (flft κ q) ⊛ ‵ ftrue) ∷ [])) ((At 𝓛 mem run).pre (to_at r u))
-  goes_at r u = qed 𝓛 (‵ (OwnR r u) ∷ (‵ (flft κ q) ⊛ ‵ ftrue) ∷ []) ∵ nothing ! $ owned ! usize (Is usize) (uint_Makes 𝓛 w64) n _ (refl, n-fits) $ fjoin ! $ move ! (1 ∷ 0 ∷ []) $ fjoin ! $ move ! (1 ∷ 0 ∷ []) $ join ! $ frame ! $ done !
+  goes-at : (r : Reader) (u : Val) → ent 𝓤 (⋆ 𝓛 (‵ (OwnR r u) ∷ (‵ (flft κ q) ⊛ ‵ ftrue) ∷ [])) ((At 𝓛 mem run).pre (to-at r u))
+  goes-at r u = qed 𝓛 (‵ (OwnR r u) ∷ (‵ (flft κ q) ⊛ ‵ ftrue) ∷ []) ∵ nothing ! $ owned ! usize (Is usize) (uint_Makes 𝓛 w64) n _ (refl, n-fits) $ fjoin ! $ move ! (1 ∷ 0 ∷ []) $ fjoin ! $ move ! (1 ∷ 0 ∷ []) $ join ! $ frame ! $ done !
 
   abbrev Is_at : Reader → Reader → Type 0
   Is_at r r' = (r'.text ≡ r.text) × (r'.index ≡ n)
@@ -242,8 +242,8 @@ module _ {M : Type 1} {𝓤 : Ura M} (𝓛 : Logic 𝓤) (mem : Memory → SProp
         split ! $ move ! (1 ∷ []) $ use1 𝓛 (raw (fact 𝓤 (Is-new r₁))) (new-said r₁) $ heard ! (Is-new r₁) (λ e₁. split ! $ move ! (1 ∷ []) $
         -- [what the reader owns; the token; what s owns; _12; …; _0; …]
         peeks ! (B (κ, tt)) (Is (B (κ, tt))) (shows 𝓛 (B (κ, tt))) r₁ (u₁ ∷ []) (λ is₁. land ! (from ! (stop !)) (init ! 13 refl ((LL.lawful (T.the_type αᵉ) (T'.the_laws αᵉ) 𝓛).typed r₁ _ is₁).0) $
-        use2 𝓛 (raw ((At 𝓛 mem run).pre (to_at r₁ u₁))) (goes_at r₁ u₁) $
-        calls_at ! fm (At 𝓛 mem run) known_at_lem (to_at r₁ u₁) (and_then ! (load ! (from ! (stop !)) (look ! 12 refl)) (and_then ! (load ! (from ! (stop !)) (look ! 22 refl)) (no_more !))) (λ u₂.
+        use2 𝓛 (raw ((At 𝓛 mem run).pre (to-at r₁ u₁))) (goes-at r₁ u₁) $
+        calls_at ! fm (At 𝓛 mem run) known_at_lem (to-at r₁ u₁) (and_then ! (load ! (from ! (stop !)) (look ! 12 refl)) (and_then ! (load ! (from ! (stop !)) (look ! 22 refl)) (no_more !))) (λ u₂.
         use1 𝓛 (later (some (λ (r₂ : Reader). ((‵ (flft κ q) ⊛ ‵ ftrue) ⊛ ‵ (OwnR r₂ u₂)) ⊛ raw (ensured 𝓛 at_of.ended (at_of.clauses 𝓛 mem run) (κ, tt) (r₁, (n, tt)) tt r₂)))) (id⊢ 𝓤 _) $ await ! tt $ pick ! (λ r₂.
         split ! $ move ! (1 ∷ []) $ use1 𝓛 (raw (fact 𝓤 (Is_at r₁ r₂))) (at-said r₁ r₂) $ heard ! (Is_at r₁ r₂) (λ e₂. split ! $ move ! (1 ∷ []) $
         peeks ! (B (κ, tt)) (Is (B (κ, tt))) (shows 𝓛 (B (κ, tt))) r₂ (u₂ ∷ []) (λ is₂. land ! (from ! (stop !)) (init ! 19 refl ((LL.lawful (T.the_type αᵉ) (T'.the_laws αᵉ) 𝓛).typed r₂ _ is₂).0) $
@@ -288,10 +288,10 @@ module _ {M : Type 1} {𝓤 : Ura M} (𝓛 : Logic 𝓤) (mem : Memory → SProp
   f-walks C Λ fm known-new known_at_lem known-scan known_past known-byte = walked 𝓛 f.ended stayed (f.clauses 𝓛 mem run) (WpFn 𝓤 H C Λ code.function) (λ κs. (shr_slice_vals, (uint_vals w64, (uint_vals w8, tt)))) (λ κs. (shr_slice_Tells (named 0) κs.0 u8, (uint_Tells w64, (uint_Tells w8, tt))))
       (λ κs qs bounds a g are. via 𝓤 _ (fst∗ 𝓤 _ (emp 𝓤)) (walk 𝓛 mem run κs.0 qs.0 a.0 a.1.0 a.1.1.0 are.1.0.1 are.1.1.0.1 C Λ fm known-new known_at_lem known-scan known_past known-byte are.0))
 
-f_meets : {M : Type 1} {𝓤 : Ura M} (𝓛 : Logic 𝓤) (mem : Memory → SProp 𝓤) (run : Routine → Fun 𝓤) (𝓣 : Tables 𝓤 𝓛.H)
+f-meets : {M : Type 1} {𝓤 : Ura M} (𝓛 : Logic 𝓤) (mem : Memory → SProp 𝓤) (run : Routine → Fun 𝓤) (𝓣 : Tables 𝓤 𝓛.H)
     → Triple 𝓤 (𝓣.C #slice·new) (New 𝓛 mem run) → Triple 𝓤 (𝓣.C #slice·at) (At 𝓛 mem run) → Triple 𝓤 (𝓣.C #slice·scan) (Scan 𝓛 mem run) → Triple 𝓤 (𝓣.C #slice·past) (Past 𝓛 mem run) → Triple 𝓤 (𝓣.C #slice·byte) (Byte 𝓛 mem run)
     → Meets 𝓛 f.signature (WpFn 𝓤 𝓛.H 𝓣.C 𝓣.Λ code.function) (f.spec 𝓛 mem run)
-f_meets {𝓤 = 𝓤} 𝓛 mem run 𝓣 known-new known_at_lem known-scan known_past known-byte = walk_Meets 𝓛 f.ended stayed (Goes-none_slice 𝓛 1 (0 ∷ []) tt (plain (λ _. u8)) yes, (Goes-none 𝓛 1 (λ _. usize) yes (λ κs x f. refl), (Goes-none 𝓛 1 (λ _. u8) yes (λ κs x f. refl), tt))) (f.clauses 𝓛 mem run) (WpFn 𝓤 𝓛.H 𝓣.C 𝓣.Λ code.function) (WpFn-mono 𝓤 𝓛.H 𝓛.laws 𝓣 code.function)
+f-meets {𝓤 = 𝓤} 𝓛 mem run 𝓣 known-new known_at_lem known-scan known_past known-byte = walk_Meets 𝓛 f.ended stayed (Goes-none_slice 𝓛 1 (0 ∷ []) tt (plain (λ _. u8)) yes, (Goes-none 𝓛 1 (λ _. usize) yes (λ κs x f. refl), (Goes-none 𝓛 1 (λ _. u8) yes (λ κs x f. refl), tt))) (f.clauses 𝓛 mem run) (WpFn 𝓤 𝓛.H 𝓣.C 𝓣.Λ code.function) (WpFn-mono 𝓤 𝓛.H 𝓛.laws 𝓣 code.function)
     (f-walks 𝓛 mem run 𝓣.C 𝓣.Λ (fm_of 𝓤 𝓛.H 𝓛.laws 𝓣) known-new known_at_lem known-scan known_past known-byte)
 
 pub read-at-spec : {M : Type 1} → stated.statement M
@@ -299,7 +299,7 @@ unfolding code.routine tables_of
 read-at-spec 𝓤 𝓛 𝓜 𝓡 =
     entered 𝓤 𝓛.H (triple_of 𝓛 f.signature (f.spec 𝓛 𝓜.mem 𝓡.run))
     (tables 𝓤 𝓛.H 𝓜 𝓡 code.env).C (tables 𝓤 𝓛.H 𝓜 𝓡 code.env).Λ #slice·read-at code.function (code.unfolded 𝓤 𝓛.H 𝓜 𝓡)
-    (f_meets 𝓛 𝓜.mem 𝓡.run (tables_of 𝓤 𝓛.H 𝓜 (tables 𝓤 𝓛.H 𝓜 𝓡 code.env))
+    (f-meets 𝓛 𝓜.mem 𝓡.run (tables_of 𝓤 𝓛.H 𝓜 (tables 𝓤 𝓛.H 𝓜 𝓡 code.env))
     (cited 𝓤 𝓛.H (New 𝓛 𝓜.mem 𝓡.run) 𝓜 𝓡 code.env #slice·new new-def.routine code.calls-reader::slice::new (new-thm.met 𝓤 𝓛 𝓜 𝓡))
     (cited 𝓤 𝓛.H (At 𝓛 𝓜.mem 𝓡.run) 𝓜 𝓡 code.env #slice·at at-def.routine code.calls-reader::slice::at (at-thm.met 𝓤 𝓛 𝓜 𝓡))
     (cited 𝓤 𝓛.H (Scan 𝓛 𝓜.mem 𝓡.run) 𝓜 𝓡 code.env #slice·scan scan-def.routine code.calls-reader::slice::scan (scan-thm.met 𝓤 𝓛 𝓜 𝓡))

@@ -9,8 +9,8 @@ withhold-by-requires c κs = search rules
 withhold-by-requires-2 : tie.Need-withhold-by-requires-2
 withhold-by-requires-2 c κs = search rules
 
-same_length : tie.Need-same-length
-same_length c = search rules
+same-length : tie.Need-same-length
+same-length c = search rules
 
 same-length-2 : tie.Need-same-length-2
 same-length-2 c = search rules
@@ -21,4 +21,4 @@ returns c = let a = c.before.before.before.before.before.before.before.before.be
 
 pub both-by-spec : {M : Type 1} → statement M
 both-by-spec =
-    tie.close (tie.spec withhold-by-requires withhold-by-requires-2 same_length same-length-2 returns)
+    tie.close (tie.spec withhold-by-requires withhold-by-requires-2 same-length same-length-2 returns)

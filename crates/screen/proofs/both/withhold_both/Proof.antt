@@ -8,8 +8,8 @@ crate-rules-requires c κs = search rules
 both-by-requires : tie.Need-both-by-requires
 both-by-requires c κs = search rules
 
-same_length : tie.Need-same-length
-same_length c = search rules
+same-length : tie.Need-same-length
+same-length c = search rules
 
 same-length-2 : tie.Need-same-length-2
 same-length-2 c = search rules
@@ -19,4 +19,4 @@ returns c = rw c.before.before.before.before.before.before.before.crate-rules.en
 
 pub withhold-both-spec : {M : Type 1} → statement M
 withhold-both-spec =
-    tie.close (tie.spec crate-rules-requires both-by-requires same_length same-length-2 returns)
+    tie.close (tie.spec crate-rules-requires both-by-requires same-length same-length-2 returns)

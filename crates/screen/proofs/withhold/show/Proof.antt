@@ -3,7 +3,7 @@ use Prim.Native.Nat.{◌-◌}
 use native.Mathlib.Omega.{arith}
 use lib.ListN.{length}
 use Rattle.walk.specs.Remaining.{Goes, remaining}
-use Rattle.walk.proofs.Walk.{Counting, counting-start, counting-on, number_bound, within, from-to, showing-start}
+use Rattle.walk.proofs.Walk.{Counting, counting-start, counting-on, number-bound, within, from-to, showing-start}
 use Rattle.walk.proofs.Replacing.{output}
 use Rattle.screen.proofs.Withholding.{shown-length, withholding, ShownUpTo, size-bound, end-bound, shown-on, shown-end, shows-withheld}
 use borrow.Author.Rules.{rules}
@@ -46,7 +46,7 @@ add-size c = let a = c.before.before.before.before.before.before.before.before.b
 add-pieces : tie.Need-overflow-add-pieces invariant-loop decreases-loop
 add-pieces c = let a = c.before.before.before.before.before.before.before.before.before.before.before.before.before.before.args in let r = a.rules in let b = a.bulletin.now in let f = a.flags.now in let at = c.before.before.before.before.before.before.before.before.before.loop in
     let l = subst (Goes r b f (remaining r b f at.cursor)) c.before.before.before.before.before.start.given.1 (c.before.before.before.before.before.before.before.next-piece.ensures at.invariant.0.walking.valid) in
-    let h = number_bound r b f at.cursor at.pieces at.invariant.1 _ _ _ _ l in let g = c.before.before.before.before.before.before.before.before.before.before.before.before.before.before.well-formed in search (rules, h, g)
+    let h = number-bound r b f at.cursor at.pieces at.invariant.1 _ _ _ _ l in let g = c.before.before.before.before.before.before.before.before.before.before.before.before.before.before.well-formed in search (rules, h, g)
 
 loop-less : tie.Need-loop-smaller invariant-loop decreases-loop
 loop-less c = let a = c.before.before.before.before.before.before.before.before.before.before.before.before.before.before.args in let r = a.rules in let b = a.bulletin.now in let f = a.flags.now in let at = c.before.before.before.before.before.before.before.before.before.loop in
@@ -58,8 +58,8 @@ loop-again c = let a = c.before.before.before.before.before.before.before.before
     let l = subst (Goes r b f (remaining r b f at.cursor)) c.before.before.before.before.before.start.given.1 (c.before.before.before.before.before.before.before.next-piece.ensures at.invariant.0.walking.valid) in
     (shown-on r b f a.out.now c.before.before.before.before.before.before.before.before.before.before.before.before.before.before.requires _ at.cursor at.from at.size at.invariant.0 _ _ _ _ l _ c.before.before.copy-part.ensures, counting-on r b f at.cursor at.pieces at.invariant.1 _ _ _ _ l)
 
-enum_told : tie.Need-enum-told invariant-loop decreases-loop
-enum_told c = search rules
+enum-told : tie.Need-enum-told invariant-loop decreases-loop
+enum-told c = search rules
 
 copy-part-requires-2 : tie.Need-copy-part-requires-2 invariant-loop decreases-loop
 copy-part-requires-2 c κs = search rules
@@ -70,7 +70,7 @@ sub-size-2 c = let a = c.before.before.before.before.before.before.before.before
 
 add-size-2 : tie.Need-overflow-add-size-2 invariant-loop decreases-loop
 add-size-2 c = let a = c.before.before.before.before.before.before.before.before.before.before.before.before.before.args in let r = a.rules in let b = a.bulletin.now in let f = a.flags.now in let at = c.before.before.before.before.before.before.before.before.loop in
-    let o = subst (Goes r b f (remaining r b f at.cursor)) c.before.before.before.before.enum_told.given.1 (c.before.before.before.before.before.before.next-piece.ensures at.invariant.0.walking.valid) in
+    let o = subst (Goes r b f (remaining r b f at.cursor)) c.before.before.before.before.enum-told.given.1 (c.before.before.before.before.before.before.next-piece.ensures at.invariant.0.walking.valid) in
     let h = end-bound r b f at.cursor at.from at.size at.invariant.0.walking o in
     let s = shown-length r b f in search (rules, h, s)
 
@@ -79,11 +79,11 @@ loop-less-2 c = let h = c.before.before.before.before.before.before.before.loop-
 
 loop-again-2 : tie.Need-loop-preserved-2 invariant-loop decreases-loop
 loop-again-2 c = let a = c.before.before.before.before.before.before.before.before.before.before.before.before.before.args in let r = a.rules in let b = a.bulletin.now in let f = a.flags.now in let at = c.before.before.before.before.before.before.before.before.loop in
-    let o = subst (Goes r b f (remaining r b f at.cursor)) c.before.before.before.before.enum_told.given.1 (c.before.before.before.before.before.before.next-piece.ensures at.invariant.0.walking.valid) in
+    let o = subst (Goes r b f (remaining r b f at.cursor)) c.before.before.before.before.enum-told.given.1 (c.before.before.before.before.before.before.next-piece.ensures at.invariant.0.walking.valid) in
     (shown-end r b f a.out.now c.before.before.before.before.before.before.before.before.before.before.before.before.before.requires _ at.cursor at.from at.size at.invariant.0 o _ c.before.before.copy-part2.ensures, at.invariant.1)
 
-same_length : tie.Need-same-length invariant-loop decreases-loop
-same_length c = search rules
+same-length : tie.Need-same-length invariant-loop decreases-loop
+same-length c = search rules
 
 returns : tie.Need-returns invariant-loop decreases-loop
 returns c = let a = c.before.before.before.before.before.before.args in let at = c.before.loop in shows-withheld a.rules a.bulletin.now a.flags.now a.out.now c.before.before.before.before.before.before.requires _ at.cursor at.from at.size at.invariant.0 at.pieces at.invariant.1 c.loop-test.false
@@ -104,11 +104,11 @@ show-spec =
     add-pieces
     loop-less
     loop-again
-    enum_told
+    enum-told
     copy-part-requires-2
     sub-size-2
     add-size-2
     loop-less-2
     loop-again-2
-    same_length
+    same-length
     returns)

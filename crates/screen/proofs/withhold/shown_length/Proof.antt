@@ -3,7 +3,7 @@ use Prim.Native.Nat.{◌-◌}
 use native.Mathlib.Omega.{arith}
 use lib.ListN.{length}
 use Rattle.walk.specs.Remaining.{Goes, remaining}
-use Rattle.walk.proofs.Walk.{walking_start, within, from-to}
+use Rattle.walk.proofs.Walk.{walking-start, within, from-to}
 use Rattle.walk.proofs.Replacing.{output, copied-end}
 use Rattle.screen.proofs.Withholding.{shown-length, withholding, LengthUpTo, length-on, size-bound, end-bound, length-is}
 use borrow.Author.Rules.{rules}
@@ -20,7 +20,7 @@ at-line-requires : tie.Need-at-line-requires invariant-loop decreases-loop
 at-line-requires c κs = search rules
 
 loop-holds : tie.Need-loop-init invariant-loop decreases-loop
-loop-holds c = let a = c.before.before.before.args in subst (λ k. LengthUpTo a.rules a.bulletin.now a.flags.now k 0 0) (sym c.at-line.ensures) (walking_start a.rules a.bulletin.now a.flags.now (output (withholding a.bulletin.now)))
+loop-holds c = let a = c.before.before.before.args in subst (λ k. LengthUpTo a.rules a.bulletin.now a.flags.now k 0 0) (sym c.at-line.ensures) (walking-start a.rules a.bulletin.now a.flags.now (output (withholding a.bulletin.now)))
 
 next-piece-requires : tie.Need-next-piece-requires invariant-loop decreases-loop
 next-piece-requires c κs = search rules
@@ -49,15 +49,15 @@ loop-again c = let a = c.before.before.before.before.before.before.before.before
     let l = subst (Goes a.rules a.bulletin.now a.flags.now (remaining a.rules a.bulletin.now a.flags.now c.before.before.before.before.before.loop.cursor)) c.before.start.given.1 (c.before.before.before.next-piece.ensures c.before.before.before.before.before.loop.invariant.valid) in
     length-on a.rules a.bulletin.now a.flags.now _ _ _ c.before.before.before.before.before.loop.invariant _ _ _ _ l
 
-enum_told : tie.Need-enum-told invariant-loop decreases-loop
-enum_told c = search rules
+enum-told : tie.Need-enum-told invariant-loop decreases-loop
+enum-told c = search rules
 
 sub-size-2 : tie.Need-overflow-sub-size-2 invariant-loop decreases-loop
 sub-size-2 c = let a = c.before.before.before.before.before.before.before.before.args in within a.rules a.bulletin.now a.flags.now (output (withholding a.bulletin.now)) _ _ _ c.before.before.before.before.loop.invariant
 
 add-size-2 : tie.Need-overflow-add-size-2 invariant-loop decreases-loop
 add-size-2 c = let a = c.before.before.before.before.before.before.before.before.args in
-    let o = subst (Goes a.rules a.bulletin.now a.flags.now (remaining a.rules a.bulletin.now a.flags.now c.before.before.before.before.loop.cursor)) c.enum_told.given.1 (c.before.before.next-piece.ensures c.before.before.before.before.loop.invariant.valid) in
+    let o = subst (Goes a.rules a.bulletin.now a.flags.now (remaining a.rules a.bulletin.now a.flags.now c.before.before.before.before.loop.cursor)) c.enum-told.given.1 (c.before.before.next-piece.ensures c.before.before.before.before.loop.invariant.valid) in
     let b = end-bound a.rules a.bulletin.now a.flags.now _ _ _ c.before.before.before.before.loop.invariant o in
     let h = shown-length a.rules a.bulletin.now a.flags.now in search (rules, b, h)
 
@@ -66,7 +66,7 @@ loop-less-2 c = let h = c.before.before.before.loop-test.true in omega (arith, h
 
 loop-again-2 : tie.Need-loop-preserved-2 invariant-loop decreases-loop
 loop-again-2 c = let a = c.before.before.before.before.before.before.before.before.args in
-    let o = subst (Goes a.rules a.bulletin.now a.flags.now (remaining a.rules a.bulletin.now a.flags.now c.before.before.before.before.loop.cursor)) c.enum_told.given.1 (c.before.before.next-piece.ensures c.before.before.before.before.loop.invariant.valid) in
+    let o = subst (Goes a.rules a.bulletin.now a.flags.now (remaining a.rules a.bulletin.now a.flags.now c.before.before.before.before.loop.cursor)) c.enum-told.given.1 (c.before.before.next-piece.ensures c.before.before.before.before.loop.invariant.valid) in
     copied-end a.rules a.bulletin.now a.flags.now (withholding a.bulletin.now) _ _ _ c.before.before.before.before.loop.invariant o
 
 returns : tie.Need-returns invariant-loop decreases-loop
@@ -86,7 +86,7 @@ shown-length-spec =
     add-size
     loop-less
     loop-again
-    enum_told
+    enum-told
     sub-size-2
     add-size-2
     loop-less-2

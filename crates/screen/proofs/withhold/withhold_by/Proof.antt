@@ -20,8 +20,8 @@ returns-2 c = let a = c.before.before.before.before.before.before.before.args in
 show-requires : tie.Need-show-requires
 show-requires c κs = leb-true _ _ (sym c.before.before.has_room.ensures ∙ not-false _ c.before.if2.false)
 
-same_length : tie.Need-same-length
-same_length c = search rules
+same-length : tie.Need-same-length
+same-length c = search rules
 
 returns-3 : tie.Need-returns-3
 returns-3 c = let a = c.before.before.before.before.before.before.before.before.before.before.before.args in shown-all a.rules a.bulletin.now a.flags.now a.out.now _ c.before.before.before.before.before.before.before.bulletin-refusal.ensures c.before.before.before.before.before.before.if1.false (sym c.before.before.before.before.before.has_room.ensures ∙ not-false _ c.before.before.before.before.if2.false) c.before.before.show.ensures
@@ -35,5 +35,5 @@ withhold-by-spec =
     has-room-requires
     returns-2
     show-requires
-    same_length
+    same-length
     returns-3)

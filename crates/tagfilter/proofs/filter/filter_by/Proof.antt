@@ -2,7 +2,7 @@
 use mathlib.Core.Path.{sym, ◌∙◌}
 use borrow.Author.Tests.{not-true, not-false, leb-true, leb-false}
 use Rattle.rules.specs.Filter.{filtered}
-use Rattle.rules.proofs.Outputs.{read-refused, not_written, fits}
+use Rattle.rules.proofs.Outputs.{read-refused, not-written, fits}
 use Rattle.tagfilter.proofs.Filtering.{answered, within-limit}
 use borrow.Author.Rules.{rules}
 use Rattle.tagfilter.proofs.filter.filter_by.Statement.{statement}
@@ -20,13 +20,13 @@ has-room-requires c κs = let a = c.before.before.before.before.before.args in w
 
 returns-2 : tie.Need-returns-2
 returns-2 c = let a = c.before.before.before.before.before.before.before.args in let r = a.rules in let b = a.bulletin.now in let f = a.flags.now in
-    answered r b f a.out.now 0 (sym c.before.before.if1.false ∙ c.before.before.before.bulletin-refusal.ensures) (not_written (filtered r b f) a.out.now (leb-false _ _ (sym c.before.has_room.ensures ∙ not-true _ c.if2.true)))
+    answered r b f a.out.now 0 (sym c.before.before.if1.false ∙ c.before.before.before.bulletin-refusal.ensures) (not-written (filtered r b f) a.out.now (leb-false _ _ (sym c.before.has_room.ensures ∙ not-true _ c.if2.true)))
 
 show-requires : tie.Need-show-requires
 show-requires c κs = leb-true _ _ (sym c.before.before.has_room.ensures ∙ not-false _ c.before.if2.false)
 
-same_length : tie.Need-same-length
-same_length c = search rules
+same-length : tie.Need-same-length
+same-length c = search rules
 
 returns-3 : tie.Need-returns-3
 returns-3 c = let a = c.before.before.before.before.before.before.before.before.before.before.before.args in let r = a.rules in let b = a.bulletin.now in let f = a.flags.now in
@@ -41,5 +41,5 @@ filter-by-spec =
     has-room-requires
     returns-2
     show-requires
-    same_length
+    same-length
     returns-3)

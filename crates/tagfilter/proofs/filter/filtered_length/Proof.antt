@@ -7,7 +7,7 @@ use lib.ListN.{length}
 use Rattle.lexical.specs.Text.{limit}
 use Rattle.rules.specs.Filter.{filtered}
 use Rattle.walk.specs.Remaining.{Goes, remaining}
-use Rattle.walk.proofs.Walk.{walking_start, within, from-to, size_is}
+use Rattle.walk.proofs.Walk.{walking-start, within, from-to, size-is}
 use Rattle.walk.proofs.Replacing.{output, copied-bound, copied-end}
 use Rattle.tagfilter.proofs.Bound.{filtered-bound}
 use Rattle.tagfilter.proofs.Filtering.{filtering, LengthUpTo, length-on, size-bound}
@@ -25,7 +25,7 @@ at-line-requires : tie.Need-at-line-requires invariant-loop decreases-loop
 at-line-requires c κs = search rules
 
 loop-holds : tie.Need-loop-init invariant-loop decreases-loop
-loop-holds c = let a = c.before.before.before.args in subst (λ k. LengthUpTo a.rules a.bulletin.now a.flags.now k 0 0) (sym c.at-line.ensures) (walking_start a.rules a.bulletin.now a.flags.now (output (filtering a.bulletin.now)))
+loop-holds c = let a = c.before.before.before.args in subst (λ k. LengthUpTo a.rules a.bulletin.now a.flags.now k 0 0) (sym c.at-line.ensures) (walking-start a.rules a.bulletin.now a.flags.now (output (filtering a.bulletin.now)))
 
 next-piece-requires : tie.Need-next-piece-requires invariant-loop decreases-loop
 next-piece-requires c κs = search rules
@@ -63,8 +63,8 @@ loop-again : tie.Need-loop-preserved invariant-loop decreases-loop
 loop-again c = let a = c.before.before.before.before.before.before.before.before.before.before.args in let r = a.rules in let b = a.bulletin.now in let f = a.flags.now in let at = c.before.before.before.before.before.before.loop in
     let l = subst (Goes r b f (remaining r b f at.cursor)) c.before.before.start.given.1 (c.before.before.before.before.next-piece.ensures at.invariant.valid) in length-on r b f _ _ _ at.invariant _ _ _ _ l _ c.piece-length.ensures
 
-enum_told : tie.Need-enum-told invariant-loop decreases-loop
-enum_told c = search rules
+enum-told : tie.Need-enum-told invariant-loop decreases-loop
+enum-told c = search rules
 
 sub-size-2 : tie.Need-overflow-sub-size-2 invariant-loop decreases-loop
 sub-size-2 c = let a = c.before.before.before.before.before.before.before.before.args in let r = a.rules in let b = a.bulletin.now in let f = a.flags.now in let at = c.before.before.before.before.loop in within r b f (output (filtering b)) _ _ _ at.invariant
@@ -72,7 +72,7 @@ sub-size-2 c = let a = c.before.before.before.before.before.before.before.before
 add-size-3 : tie.Need-overflow-add-size-3 invariant-loop decreases-loop
 unfolding limit filtered
 add-size-3 c = let a = c.before.before.before.before.before.before.before.before.args in let r = a.rules in let b = a.bulletin.now in let f = a.flags.now in let at = c.before.before.before.before.loop in
-    let o = subst (Goes r b f (remaining r b f at.cursor)) c.enum_told.given.1 (c.before.before.next-piece.ensures at.invariant.valid) in
+    let o = subst (Goes r b f (remaining r b f at.cursor)) c.enum-told.given.1 (c.before.before.next-piece.ensures at.invariant.valid) in
     omega (arith, copied-bound r b f (filtering b) _ _ _ at.invariant o, filtered-bound r b f, c.before.before.before.before.before.before.before.before.requires)
 
 loop-less-2 : tie.Need-loop-smaller-2 invariant-loop decreases-loop
@@ -80,11 +80,11 @@ loop-less-2 c = let h = c.before.before.before.loop-test.true in omega (arith, h
 
 loop-again-2 : tie.Need-loop-preserved-2 invariant-loop decreases-loop
 loop-again-2 c = let a = c.before.before.before.before.before.before.before.before.args in let r = a.rules in let b = a.bulletin.now in let f = a.flags.now in let at = c.before.before.before.before.loop in
-    let o = subst (Goes r b f (remaining r b f at.cursor)) c.enum_told.given.1 (c.before.before.next-piece.ensures at.invariant.valid) in copied-end r b f (filtering b) _ _ _ at.invariant o
+    let o = subst (Goes r b f (remaining r b f at.cursor)) c.enum-told.given.1 (c.before.before.next-piece.ensures at.invariant.valid) in copied-end r b f (filtering b) _ _ _ at.invariant o
 
 returns : tie.Need-returns invariant-loop decreases-loop
 unfolding filtered
-returns c = let a = c.before.before.before.before.before.args in size_is a.rules a.bulletin.now a.flags.now (output (filtering a.bulletin.now)) _ _ _ c.before.loop.invariant c.loop-test.false
+returns c = let a = c.before.before.before.before.before.args in size-is a.rules a.bulletin.now a.flags.now (output (filtering a.bulletin.now)) _ _ _ c.before.loop.invariant c.loop-test.false
 
 pub filtered-length-spec : {M : Type 1} → statement M
 filtered-length-spec =
@@ -102,7 +102,7 @@ filtered-length-spec =
     add-size-2
     loop-less
     loop-again
-    enum_told
+    enum-told
     sub-size-2
     add-size-3
     loop-less-2

@@ -48,7 +48,7 @@ write-piece-requires : tie.Need-write-piece-requires invariant-loop decreases-lo
 write-piece-requires c κs = let a = c.before.before.before.before.before.before.before.before.before.before.before.before.before.before.before.args in let r = a.rules in let b = a.bulletin.now in let f = a.flags.now in let at = c.before.before.before.before.before.before.before.before.before.before.loop in
     let l = subst (Goes r b f (remaining r b f at.cursor)) c.before.before.before.before.before.before.start.given.1 (c.before.before.before.before.before.before.before.before.next-piece.ensures at.invariant.walking.valid) in
     let h = from-to r b f (output (filtering b)) _ _ _ at.invariant.walking _ _ _ _ l in
-    ((h.1, h.2), omega (arith, size-bound r b f _ _ _ at.invariant.walking _ _ _ _ l, c.before.before.before.before.before.before.before.before.before.before.before.before.before.before.before.requires, at.invariant.same_length, same c.before.before.before.copy-part.ensures))
+    ((h.1, h.2), omega (arith, size-bound r b f _ _ _ at.invariant.walking _ _ _ _ l, c.before.before.before.before.before.before.before.before.before.before.before.before.before.before.before.requires, at.invariant.same-length, same c.before.before.before.copy-part.ensures))
 
 loop-less : tie.Need-loop-smaller invariant-loop decreases-loop
 loop-less c = let a = c.before.before.before.before.before.before.before.before.before.before.before.before.before.before.before.before.before.before.args in let r = a.rules in let b = a.bulletin.now in let f = a.flags.now in let at = c.before.before.before.before.before.before.before.before.before.before.before.before.before.loop in
@@ -60,8 +60,8 @@ loop-again c = let a = c.before.before.before.before.before.before.before.before
     let l = subst (Goes r b f (remaining r b f at.cursor)) c.before.before.before.before.before.before.before.before.before.start.given.1 (c.before.before.before.before.before.before.before.before.before.before.before.next-piece.ensures at.invariant.walking.valid) in
     shown-on r b f a.out.now c.before.before.before.before.before.before.before.before.before.before.before.before.before.before.before.before.before.before.requires _ at.cursor at.from at.size at.invariant _ _ _ _ l _ _ _ c.before.before.before.before.before.before.copy-part.ensures c.before.before.write-piece.ensures
 
-enum_told : tie.Need-enum-told invariant-loop decreases-loop
-enum_told c = search rules
+enum-told : tie.Need-enum-told invariant-loop decreases-loop
+enum-told c = search rules
 
 copy-part-requires-2 : tie.Need-copy-part-requires-2 invariant-loop decreases-loop
 copy-part-requires-2 c κs = search rules
@@ -72,7 +72,7 @@ sub-size c = let a = c.before.before.before.before.before.before.before.before.b
 add-size : tie.Need-overflow-add-size invariant-loop decreases-loop
 unfolding filtered
 add-size c = let a = c.before.before.before.before.before.before.before.before.before.before.before.before.before.args in let r = a.rules in let b = a.bulletin.now in let f = a.flags.now in let at = c.before.before.before.before.before.before.before.before.loop in
-    let o = subst (Goes r b f (remaining r b f at.cursor)) c.before.before.before.before.enum_told.given.1 (c.before.before.before.before.before.before.next-piece.ensures at.invariant.walking.valid) in
+    let o = subst (Goes r b f (remaining r b f at.cursor)) c.before.before.before.before.enum-told.given.1 (c.before.before.before.before.before.before.next-piece.ensures at.invariant.walking.valid) in
     let h = copied-bound r b f (filtering b) _ _ _ at.invariant.walking o in let p = c.before.before.before.before.before.before.before.before.before.before.before.before.before.requires in let g = c.before.before.before.before.before.before.before.before.before.before.before.before.before.well-formed in search (rules, h, p, g)
 
 loop-less-2 : tie.Need-loop-smaller-2 invariant-loop decreases-loop
@@ -81,11 +81,11 @@ loop-less-2 c = let h = c.before.before.before.before.before.before.before.loop-
 loop-again-2 : tie.Need-loop-preserved-2 invariant-loop decreases-loop
 unfolding filtered
 loop-again-2 c = let a = c.before.before.before.before.before.before.before.before.before.before.before.before.before.args in let r = a.rules in let b = a.bulletin.now in let f = a.flags.now in let at = c.before.before.before.before.before.before.before.before.loop in
-    let o = subst (Goes r b f (remaining r b f at.cursor)) c.before.before.before.before.enum_told.given.1 (c.before.before.before.before.before.before.next-piece.ensures at.invariant.walking.valid) in
+    let o = subst (Goes r b f (remaining r b f at.cursor)) c.before.before.before.before.enum-told.given.1 (c.before.before.before.before.before.before.next-piece.ensures at.invariant.walking.valid) in
     copied-shown r b f (filtering b) a.out.now c.before.before.before.before.before.before.before.before.before.before.before.before.before.requires _ at.cursor at.from at.size at.invariant o _ c.before.before.copy-part2.ensures
 
-same_length : tie.Need-same-length invariant-loop decreases-loop
-same_length c = search rules
+same-length : tie.Need-same-length invariant-loop decreases-loop
+same-length c = search rules
 
 returns : tie.Need-returns invariant-loop decreases-loop
 returns c = let a = c.before.before.before.before.before.before.args in let at = c.before.loop in shows-filtered a.rules a.bulletin.now a.flags.now a.out.now c.before.before.before.before.before.before.requires _ at.cursor at.from at.size at.invariant c.loop-test.false
@@ -106,11 +106,11 @@ show-spec =
     write-piece-requires
     loop-less
     loop-again
-    enum_told
+    enum-told
     copy-part-requires-2
     sub-size
     add-size
     loop-less-2
     loop-again-2
-    same_length
+    same-length
     returns)

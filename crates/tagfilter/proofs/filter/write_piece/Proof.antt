@@ -26,8 +26,8 @@ add-result c = let a = c.before.before.before.before.before.before.before.before
     let h = rest-fits a.bulletin.now a.block a.start a.stop _ e pre.0.0 pre.0.1 a.out.now a.at pre.1 _ _ c.before.before.before.before.before.before.write-part.ensures in
     let g = c.before.before.before.before.before.before.before.before.before.before.before.well-formed in search (rules, h, g)
 
-same_length : tie.Need-same-length
-same_length c = same c.before.before.copy-part.ensures ∙ same c.before.before.before.before.before.before.write-part.ensures.bytes-are
+same-length : tie.Need-same-length
+same-length c = same c.before.before.copy-part.ensures ∙ same c.before.before.before.before.before.before.write-part.ensures.bytes-are
 
 returns : tie.Need-returns
 returns c = let a = c.before.before.before.before.before.before.before.before.before.before.before.args in let pre = c.before.before.before.before.before.before.before.before.before.before.before.requires in let e = c.before.before.before.before.before.before.before.before.counted-end.ensures in
@@ -42,5 +42,5 @@ write-piece-spec =
     copy-part-requires
     sub-result
     add-result
-    same_length
+    same-length
     returns)

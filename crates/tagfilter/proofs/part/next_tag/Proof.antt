@@ -3,7 +3,7 @@ use mathlib.Core.Path.{sym, ◌∙◌}
 use Prim.Native.Nat.{◌+◌, ◌-◌}
 use native.Mathlib.Omega.{arith}
 use Rattle.tagfilter.specs.Part.{Passed}
-use Rattle.tagfilter.proofs.Parts.{passed_on, passed-plain, passed-one}
+use Rattle.tagfilter.proofs.Parts.{passed-on, passed-plain, passed-one}
 use borrow.Author.Rules.{rules}
 use Rattle.tagfilter.proofs.part.next_tag.Statement.{statement}
 use Rattle.tagfilter.proofs.part.next_tag.Tie as tie
@@ -43,7 +43,7 @@ loop-again : tie.Need-loop-preserved invariant-loop decreases-loop
 loop-again c = let a = c.before.before.before.before.before.before.before.before.args in let pre = c.before.before.before.before.before.before.before.before.requires in let at = c.before.before.before.before.loop in let t = c.before.before.before.loop-test.true in
     let one = passed-one a.bulletin.now a.stop at.i t pre.1 (sym c.before.before.is-disallowed.ensures ∙ c.before.if1.false) in
     let more = passed-plain a.bulletin.now a.stop _ c.before.before.before.before.before.before.from-indices.ensures (at.i + 1) _ one.to c.mark-or-line-end2.ensures pre.1 in
-    passed_on a.bulletin.now a.stop a.index at.i _ at.invariant (passed_on a.bulletin.now a.stop at.i (at.i + 1) _ one more)
+    passed-on a.bulletin.now a.stop a.index at.i _ at.invariant (passed-on a.bulletin.now a.stop at.i (at.i + 1) _ one more)
 
 returns-2 : tie.Need-returns-2 invariant-loop decreases-loop
 returns-2 c = record { passed = c.before.loop.invariant; tag = λ h. let l = c.loop-test.false in absurd (omega (arith, h, l)) }

@@ -2,7 +2,7 @@
 use Prim.Native.Nat.{◌-◌}
 use native.Mathlib.Omega.{arith}
 use Rattle.lexical.specs.Text.{limit}
-use Rattle.tagfilter.proofs.Parts.{Counted, counted_start, counted-on, counted-bound, counted-end}
+use Rattle.tagfilter.proofs.Parts.{Counted, counted-start, counted-on, counted-bound, counted-end}
 use borrow.Author.Rules.{rules}
 use Rattle.tagfilter.proofs.part.part_length.Statement.{statement}
 use Rattle.tagfilter.proofs.part.part_length.Tie as tie
@@ -20,7 +20,7 @@ next-tag-requires : tie.Need-next-tag-requires invariant-loop decreases-loop
 next-tag-requires c κs = search rules
 
 loop-holds : tie.Need-loop-init invariant-loop decreases-loop
-loop-holds c = let a = c.before.before.args in counted_start a.bulletin.now a.stop c.before.before.requires.0.1 a.start _ c.next-tag.ensures
+loop-holds c = let a = c.before.before.args in counted-start a.bulletin.now a.stop c.before.before.requires.0.1 a.start _ c.next-tag.ensures
 
 add-size : tie.Need-overflow-add-size invariant-loop decreases-loop
 unfolding limit

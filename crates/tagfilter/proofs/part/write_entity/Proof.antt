@@ -26,8 +26,8 @@ add-out-3 c = search rules
 slice-write-out-4 : tie.Need-slice-write-out-4
 slice-write-out-4 c = simp length-set (omega arith)
 
-same_length : tie.Need-same-length
-same_length c = search rules
+same-length : tie.Need-same-length
+same-length c = search rules
 
 returns : tie.Need-returns
 returns c = let a = c.args in entity-written a.out.now a.at
@@ -43,5 +43,5 @@ write-entity-spec =
     slice-write-out-3
     add-out-3
     slice-write-out-4
-    same_length
+    same-length
     returns)

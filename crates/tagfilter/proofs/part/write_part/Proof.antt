@@ -67,8 +67,8 @@ add-result c = let a = c.before.before.before.before.before.before.before.before
     let h = room-behind a.bulletin.now a.start a.stop pre.0.1 a.out.now a.at pre.1 _ at.from at.size at.tag at.invariant.0 at.invariant.1 c.before.before.before.before.loop-test.false in
     let g = c.before.before.before.before.before.before.before.before.before.well-formed in search (rules, h, g)
 
-same_length : tie.Need-same-length invariant-loop decreases-loop
-same_length c = let a = c.before.before.before.before.before.before.before.before.before.args in let at = c.before.before.before.before.before.loop in same c.before.before.copy-part2.ensures ∙ same-room a.out.now a.at _ _ at.size _ at.invariant.0
+same-length : tie.Need-same-length invariant-loop decreases-loop
+same-length c = let a = c.before.before.before.before.before.before.before.before.before.args in let at = c.before.before.before.before.before.loop in same c.before.before.copy-part2.ensures ∙ same-room a.out.now a.at _ _ at.size _ at.invariant.0
 
 returns : tie.Need-returns invariant-loop decreases-loop
 returns c = let a = c.before.before.before.before.before.before.before.before.before.args in let pre = c.before.before.before.before.before.before.before.before.before.requires in let at = c.before.before.before.before.before.loop in
@@ -94,5 +94,5 @@ write-part-spec =
     copy-part-requires-2
     sub-result
     add-result
-    same_length
+    same-length
     returns)

@@ -3,7 +3,7 @@ use mathlib.Core.Path.{sym, ◌∙◌, ap}
 use mathlib.Core.Bool.{◌||◌}
 use lib.Dec.{eqb}
 use lib.ListN.{get_or}
-use Rattle.tagfilter.proofs.Tags.{ends-out, ends-other, ends_last, ends-slash}
+use Rattle.tagfilter.proofs.Tags.{ends-out, ends-other, ends-last, ends-slash}
 use borrow.Author.Rules.{rules}
 use Rattle.tagfilter.proofs.tag.ends_tag_name.Statement.{statement}
 use Rattle.tagfilter.proofs.tag.ends_tag_name.Tie as tie
@@ -25,7 +25,7 @@ add-next : tie.Need-overflow-add-next
 add-next c = search rules
 
 returns-3 : tie.Need-returns-3
-returns-3 c = let a = c.before.before.before.before.before.args in sym (ends_last a.bytes.now a.index c.before.before.before.if1.false c.before.if2.false c.if3.true)
+returns-3 c = let a = c.before.before.before.before.before.args in sym (ends-last a.bytes.now a.index c.before.before.before.if1.false c.before.if2.false c.if3.true)
 
 shared-slice-read-result : tie.Need-shared-slice-read-result
 shared-slice-read-result c = search rules

@@ -22,8 +22,8 @@ trace-flow-requires c κs = let a = c.before.before.before.before.before.before.
     let b = block-between a.bulletin.now a.flags.now a.index m.within _ (block-found-at a.bulletin.now a.flags.now a.index _ e) in
     (m.small, b.from, b.to)
 
-enum_told : tie.Need-enum-told
-enum_told c = search rules
+enum-told : tie.Need-enum-told
+enum-told c = search rules
 
 trace-last-requires : tie.Need-trace-last-requires
 trace-last-requires c κs = search rules
@@ -31,8 +31,8 @@ trace-last-requires c κs = search rules
 enum-known-refusal : tie.Need-enum-known-refusal
 enum-known-refusal c = search rules
 
-same_length : tie.Need-same-length
-same_length c = search rules
+same-length : tie.Need-same-length
+same-length c = search rules
 
 returns : tie.Need-returns
 returns c = let a = c.before.before.before.before.before.before.before.before.before.before.before.before.args in
@@ -44,7 +44,7 @@ same-length-2 c = search rules
 
 returns-2 : tie.Need-returns-2
 returns-2 c = let a = c.before.before.before.before.before.before.before.before.before.before.args in
-    let e = sym c.before.before.before.before.before.before.block-scan.ensures ∙ ap blockAnswerOf c.before.before.before.before.enum_told.given.1 in
+    let e = sym c.before.before.before.before.before.before.block-scan.ensures ∙ ap blockAnswerOf c.before.before.before.before.enum-told.given.1 in
     block-none-by a.bulletin.now a.flags.now a.index a.out.now e (block-none-passes a.bulletin.now a.flags.now a.index e) c.before.before.trace-last.ensures
 
 returns-3 : tie.Need-returns-3
@@ -60,10 +60,10 @@ block-trace-spec =
     enum-known-found
     kind-number-requires
     trace-flow-requires
-    enum_told
+    enum-told
     trace-last-requires
     enum-known-refusal
-    same_length
+    same-length
     returns
     same-length-2
     returns-2

@@ -2,8 +2,8 @@
 use mathlib.Core.Path.{refl, ◌∙◌}
 use native.Mathlib.Omega.{arith}
 use Rattle.lexical.proofs.Stores.{same}
-use Rattle.trace.proofs.Marks.{and_then, ready_on, renamed}
-use Rattle.trace.proofs.Pieces.{ready-start, from_start, first-within, indent-within, flow-piece, flow-piece-count}
+use Rattle.trace.proofs.Marks.{and-then, ready-on, renamed}
+use Rattle.trace.proofs.Pieces.{ready-start, from-start, first-within, indent-within, flow-piece, flow-piece-count}
 use borrow.Author.Rules.{rules}
 use Rattle.trace.proofs.block.mark_flow.Statement.{statement}
 use Rattle.trace.proofs.block.mark_flow.Tie as tie
@@ -31,7 +31,7 @@ mark-some-requires c κs =
     let n = c.before.inside.ensures in
     let w = first-within a.front.now a.index pre.0.1 in
     let v = indent-within a.front.now a.index a.exit indent _ _ n refl refl in (
-      ready_on m.0 pre.0.0 (omega (arith, m.1)) (omega arith),
+      ready-on m.0 pre.0.0 (omega (arith, m.1)) (omega arith),
       (
         (m.1, omega (arith, n), omega (arith, v, w)),
         (omega arith, omega (arith, pre.1, m.0.at-is, same m.0.bytes, flow-piece-count a.front.now a.index a.exit indent _ _ n refl refl)),
@@ -53,7 +53,7 @@ mark-pair-requires c κs =
     let f = c.before.line-end.ensures in
     let w = first-within a.front.now a.index pre.0.1 in
     let v = indent-within a.front.now a.index a.exit indent first first n f refl in (
-      ready_on p.0 pre.0.0 (omega (arith, p.1)) (omega (arith, v, f, w)),
+      ready-on p.0 pre.0.0 (omega (arith, p.1)) (omega (arith, v, f, w)),
       (
         (v, omega (arith, f, w)),
         (omega arith, omega (arith, pre.1, m.0.at-is, same m.0.bytes, p.0.at-is, same p.0.bytes, flow-piece-count a.front.now a.index a.exit indent first first n f refl)),
@@ -73,15 +73,15 @@ mark-rest-requires c κs =
     let n = c.before.before.before.before.before.before.before.before.before.before.inside.ensures in
     let f = c.before.before.before.before.before.line-end.ensures in
     let w = first-within a.front.now a.index pre.0.1 in (
-      ready_on q.0 pre.0.0 (omega arith) (omega (arith, q.1, f, w)),
+      ready-on q.0 pre.0.0 (omega arith) (omega (arith, q.1, f, w)),
       (
         (omega (arith, q.1, f, w), pre.0.2, pre.0.3),
         omega (arith, pre.1, m.0.at-is, same m.0.bytes, p.0.at-is, same p.0.bytes, q.0.at-is, same q.0.bytes, flow-piece-count a.front.now a.index a.exit _ _ _ n f q.1),
       ),
     )
 
-same_length : tie.Need-same-length
-same_length c = same c.before.before.mark-rest.ensures.bytes ∙ same c.before.before.before.before.before.before.mark-pair.ensures.0.bytes ∙ same c.before.before.before.before.before.before.before.before.before.before.before.mark-some.ensures.0.bytes ∙ same c.before.before.before.before.before.before.before.before.before.before.before.before.before.before.before.before.mark.ensures.0.bytes
+same-length : tie.Need-same-length
+same-length c = same c.before.before.mark-rest.ensures.bytes ∙ same c.before.before.before.before.before.before.mark-pair.ensures.0.bytes ∙ same c.before.before.before.before.before.before.before.before.before.before.before.mark-some.ensures.0.bytes ∙ same c.before.before.before.before.before.before.before.before.before.before.before.before.before.before.before.before.mark.ensures.0.bytes
 
 returns : tie.Need-returns
 returns c =
@@ -89,8 +89,8 @@ returns c =
     let m = c.before.before.before.before.before.before.before.before.before.before.before.before.before.before.before.before.mark.ensures in
     let p = c.before.before.before.before.before.before.before.before.before.before.before.mark-some.ensures in
     let q = c.before.before.before.before.before.before.mark-pair.ensures in
-    from_start c.before.before.before.before.before.before.before.before.before.before.before.before.before.before.before.before.before.before.start.result c.before.before.before.before.before.before.before.before.before.before.before.before.before.before.before.before.before.before.start.ensures
-    (renamed _ (flow-piece a.front.now a.index a.exit _ _ _ c.before.before.before.before.before.before.before.before.before.before.before.before.before.inside.ensures c.before.before.before.before.before.before.before.before.line-end.ensures q.1) (and_then m.0 (and_then p.0 (and_then q.0 c.before.before.mark-rest.ensures))))
+    from-start c.before.before.before.before.before.before.before.before.before.before.before.before.before.before.before.before.before.before.start.result c.before.before.before.before.before.before.before.before.before.before.before.before.before.before.before.before.before.before.start.ensures
+    (renamed _ (flow-piece a.front.now a.index a.exit _ _ _ c.before.before.before.before.before.before.before.before.before.before.before.before.before.inside.ensures c.before.before.before.before.before.before.before.before.line-end.ensures q.1) (and-then m.0 (and-then p.0 (and-then q.0 c.before.before.mark-rest.ensures))))
 
 pub mark-flow-spec : {M : Type 1} → statement M
 mark-flow-spec =
@@ -104,5 +104,5 @@ mark-flow-spec =
     mark-pair-requires
     add-mark-rest
     mark-rest-requires
-    same_length
+    same-length
     returns)

@@ -5,7 +5,7 @@ use native.Mathlib.Omega.{arith}
 use lib.ListN.{length}
 use Rattle.lexical.specs.Text.{limit}
 use Rattle.trace.specs.Walk.{restEvents}
-use Rattle.trace.proofs.Walks.{to_is, rest-none, at-most-six}
+use Rattle.trace.proofs.Walks.{to-is, rest-none, at-most-six}
 use Rattle.trace.proofs.Turns.{further, met, count-on}
 use Rattle.rules.proofs.Cut.{to-within}
 use borrow.Author.Rules.{rules}
@@ -47,7 +47,7 @@ loop-less c =
     let s = c.before.before.before.before.before.before.before.args.front.now in
     let i = l.loop.i in
     let h = met _ _ c.before.before.before.before.line-ending.ensures c.before.before.before.if1.true in
-    omega (arith, to_is s i _ _ c.before.line-from.ensures c.line-end.ensures, further s i h, to-within s i l.loop.invariant.0)
+    omega (arith, to-is s i _ _ c.before.line-from.ensures c.line-end.ensures, further s i h, to-within s i l.loop.invariant.0)
 
 loop-again : tie.Need-loop-preserved invariant-loop decreases-loop
 loop-again c =
@@ -56,7 +56,7 @@ loop-again c =
     let s = a.front.now in
     let i = l.loop.i in
     let h = met _ _ c.before.before.before.before.line-ending.ensures c.before.before.before.if1.true in
-    let t = to_is s i _ _ c.before.line-from.ensures c.line-end.ensures in (
+    let t = to-is s i _ _ c.before.line-from.ensures c.line-end.ensures in (
       omega (arith, t, to-within s i l.loop.invariant.0),
       omega (arith, t, further s i h, l.loop.invariant.1, c.before.before.count-line.ensures, at-most-six s i a.flow),
       count-on s a.flow i _ l.loop.count _ _ h c.before.before.count-line.ensures t l.loop.invariant.2,

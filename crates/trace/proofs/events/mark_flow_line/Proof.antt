@@ -1,9 +1,9 @@
 -- The numbers of a line stand in order, so the pen only moves forward; the two markings together are the events of the line.
-use Rattle.trace.proofs.Marks.{and_then, ready_on, renamed}
+use Rattle.trace.proofs.Marks.{and-then, ready-on, renamed}
 use mathlib.Core.Path.{◌∙◌}
 use native.Mathlib.Omega.{arith}
 use Rattle.lexical.proofs.Stores.{same}
-use Rattle.trace.proofs.Walks.{to_is, flow-order, flow-is, flow-count}
+use Rattle.trace.proofs.Walks.{to-is, flow-order, flow-is, flow-count}
 use borrow.Author.Rules.{rules}
 use Rattle.trace.proofs.events.mark_flow_line.Statement.{statement}
 use Rattle.trace.proofs.events.mark_flow_line.Tie as tie
@@ -41,10 +41,10 @@ mark-some-requires c κs =
     let o = flow-order s i from to f t pre.1.0.0 in
     let n = flow-count s i from to f t in
     let m = c.before.before.before.mark-pair.ensures in
-    (ready_on m.0 pre.0.small (omega (arith, m.1)) (omega (arith, o.holds, o.ends, pre.1.0.1)), ((m.1, o.holds, omega (arith, o.ends, pre.1.0.1)), (omega arith, omega (arith, n, pre.1.1, m.0.at-is, same m.0.bytes))))
+    (ready-on m.0 pre.0.small (omega (arith, m.1)) (omega (arith, o.holds, o.ends, pre.1.0.1)), ((m.1, o.holds, omega (arith, o.ends, pre.1.0.1)), (omega arith, omega (arith, n, pre.1.1, m.0.at-is, same m.0.bytes))))
 
-same_length : tie.Need-same-length
-same_length c = search rules
+same-length : tie.Need-same-length
+same-length c = search rules
 
 returns : tie.Need-returns
 returns c =
@@ -60,7 +60,7 @@ returns c =
     let n = flow-count s i from to f t in
     let m = c.before.before.before.before.before.before.mark-pair.ensures in
     let v = c.before.before.mark-some.ensures in
-    (renamed _ (flow-is s i from to f t) (and_then m.0 v.0), v.1 ∙ to_is s i from to f t)
+    (renamed _ (flow-is s i from to f t) (and-then m.0 v.0), v.1 ∙ to-is s i from to f t)
 
 pub mark-flow-line-spec : {M : Type 1} → statement M
 mark-flow-line-spec =
@@ -70,5 +70,5 @@ mark-flow-line-spec =
     line-end-requires
     mark-pair-requires
     mark-some-requires
-    same_length
+    same-length
     returns)

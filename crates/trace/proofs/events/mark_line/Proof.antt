@@ -13,8 +13,8 @@ mark-flow-line-requires c κs =
     let pre = c.before.before.before.before.before.requires in
     (pre.0, (pre.1.0, omega (arith, pre.1.1, ap length (line-flow a.front.now a.pen.point.index a.flow c.before.if1.true))))
 
-same_length : tie.Need-same-length
-same_length c = search rules
+same-length : tie.Need-same-length
+same-length c = search rules
 
 returns : tie.Need-returns
 returns c =
@@ -42,7 +42,7 @@ mark-line-spec =
     tie.close
     (tie.spec
     mark-flow-line-requires
-    same_length
+    same-length
     returns
     mark-text-line-requires
     same-length-2

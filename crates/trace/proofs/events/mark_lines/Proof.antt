@@ -40,8 +40,8 @@ loop-less c =
 loop-again : tie.Need-loop-preserved invariant-loop decreases-loop
 loop-again c = left-on c.before.before.before.before.before.before.loop.invariant (met _ _ c.before.before.before.before.before.line-ending.ensures c.before.before.before.before.if1.true) c.before.before.mark-line.ensures.0 c.before.before.mark-line.ensures.1
 
-same_length : tie.Need-same-length invariant-loop decreases-loop
-same_length c = c.before.before.loop.invariant.size
+same-length : tie.Need-same-length invariant-loop decreases-loop
+same-length c = c.before.before.loop.invariant.size
 
 returns : tie.Need-returns invariant-loop decreases-loop
 returns c =
@@ -59,5 +59,5 @@ mark-lines-spec =
     mark-line-requires
     loop-less
     loop-again
-    same_length
+    same-length
     returns)

@@ -1,4 +1,4 @@
-use Rattle.trace.proofs.Marks.{marked-pair, ready_on}
+use Rattle.trace.proofs.Marks.{marked-pair, ready-on}
 use native.Mathlib.Omega.{arith}
 use Rattle.lexical.proofs.Stores.{same}
 use borrow.Author.Rules.{rules}
@@ -15,10 +15,10 @@ mark-requires-2 : tie.Need-mark-requires-2
 mark-requires-2 c κs =
     let pre = c.before.before.before.before.before.before.before.requires in
     let m = c.before.before.before.mark.ensures in
-    (ready_on m.0 pre.0.small (omega (arith, m.1)) (omega arith), omega (arith, m.0.at-is, same m.0.bytes))
+    (ready-on m.0 pre.0.small (omega (arith, m.1)) (omega arith), omega (arith, m.0.at-is, same m.0.bytes))
 
-same_length : tie.Need-same-length
-same_length c = search rules
+same-length : tie.Need-same-length
+same-length c = search rules
 
 returns : tie.Need-returns
 returns c =
@@ -28,4 +28,4 @@ returns c =
     (marked-pair a.kind a.from a.to m.0 n.0, n.1)
 
 pub mark-pair-spec : {M : Type 1} → statement M
-mark-pair-spec = tie.close (tie.spec mark-requires add-exit mark-requires-2 same_length returns)
+mark-pair-spec = tie.close (tie.spec mark-requires add-exit mark-requires-2 same-length returns)

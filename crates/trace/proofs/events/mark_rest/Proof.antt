@@ -1,4 +1,4 @@
-use Rattle.trace.proofs.Marks.{and_then}
+use Rattle.trace.proofs.Marks.{and-then}
 use borrow.Author.Rules.{rules}
 use Rattle.trace.proofs.events.mark_rest.Statement.{statement}
 use Rattle.trace.proofs.events.mark_rest.Tie as tie
@@ -9,11 +9,11 @@ mark-lines-requires c κs = search rules
 mark-requires : tie.Need-mark-requires
 mark-requires c κs = search rules
 
-same_length : tie.Need-same-length
-same_length c = search rules
+same-length : tie.Need-same-length
+same-length c = search rules
 
 returns : tie.Need-returns
-returns c = and_then c.before.before.before.before.before.before.mark-lines.ensures.0 c.before.before.mark.ensures.0
+returns c = and-then c.before.before.before.before.before.before.mark-lines.ensures.0 c.before.before.mark.ensures.0
 
 pub mark-rest-spec : {M : Type 1} → statement M
-mark-rest-spec = tie.close (tie.spec mark-lines-requires mark-requires same_length returns)
+mark-rest-spec = tie.close (tie.spec mark-lines-requires mark-requires same-length returns)

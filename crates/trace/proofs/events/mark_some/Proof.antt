@@ -13,8 +13,8 @@ mark-pair-requires c κs =
     let pre = c.before.before.before.before.requires in
     (pre.0, ((pre.1.0.1, pre.1.0.2), (pre.1.1.0, omega (arith, pre.1.1.1, ap length (some a.kind a.from a.to c.before.if1.true)))))
 
-same_length : tie.Need-same-length
-same_length c = search rules
+same-length : tie.Need-same-length
+same-length c = search rules
 
 returns : tie.Need-returns
 returns c =
@@ -28,4 +28,4 @@ returns-2 c =
     (renamed _ (none a.kind a.from a.to c.if1.false) (marked-none pre.0.stands), omega (arith, pre.1.0.0, pre.1.0.1, c.if1.false))
 
 pub mark-some-spec : {M : Type 1} → statement M
-mark-some-spec = tie.close (tie.spec mark-pair-requires same_length returns returns-2)
+mark-some-spec = tie.close (tie.spec mark-pair-requires same-length returns returns-2)

@@ -1,9 +1,9 @@
 -- The numbers of a line stand in order, so the pen only moves forward; the three markings together are the events of the line.
-use Rattle.trace.proofs.Marks.{and_then, ready_on, renamed}
+use Rattle.trace.proofs.Marks.{and-then, ready-on, renamed}
 use mathlib.Core.Path.{◌∙◌}
 use native.Mathlib.Omega.{arith}
 use Rattle.lexical.proofs.Stores.{same}
-use Rattle.trace.proofs.Walks.{to_is, text-order, text-is, text-count}
+use Rattle.trace.proofs.Walks.{to-is, text-order, text-is, text-count}
 use borrow.Author.Rules.{rules}
 use Rattle.trace.proofs.events.mark_text_line.Statement.{statement}
 use Rattle.trace.proofs.events.mark_text_line.Tie as tie
@@ -48,7 +48,7 @@ mark-some-requires c κs =
     let o = text-order s i from to f t at d pre.1.0.0 in
     let n = text-count s i from to f t at d in
     let m = c.before.before.before.mark-pair.ensures in
-    (ready_on m.0 pre.0.small (omega (arith, m.1)) (omega (arith, o.spaces, o.holds, o.ends, pre.1.0.1)), ((m.1, o.spaces, omega (arith, o.holds, o.ends, pre.1.0.1)), (omega arith, omega (arith, n, pre.1.1, m.0.at-is, same m.0.bytes))))
+    (ready-on m.0 pre.0.small (omega (arith, m.1)) (omega (arith, o.spaces, o.holds, o.ends, pre.1.0.1)), ((m.1, o.spaces, omega (arith, o.holds, o.ends, pre.1.0.1)), (omega arith, omega (arith, n, pre.1.1, m.0.at-is, same m.0.bytes))))
 
 mark-pair-requires-2 : tie.Need-mark-pair-requires-2
 mark-pair-requires-2 c κs =
@@ -66,10 +66,10 @@ mark-pair-requires-2 c κs =
     let n = text-count s i from to f t at d in
     let m = c.before.before.before.before.before.before.before.mark-pair.ensures in
     let v = c.before.before.before.mark-some.ensures in
-    (ready_on v.0 pre.0.small (omega (arith, v.1)) (omega (arith, o.holds, o.ends, pre.1.0.1)), ((o.holds, omega (arith, o.ends, pre.1.0.1)), (omega arith, omega (arith, n, pre.1.1, m.0.at-is, same m.0.bytes, v.0.at-is, same v.0.bytes))))
+    (ready-on v.0 pre.0.small (omega (arith, v.1)) (omega (arith, o.holds, o.ends, pre.1.0.1)), ((o.holds, omega (arith, o.ends, pre.1.0.1)), (omega arith, omega (arith, n, pre.1.1, m.0.at-is, same m.0.bytes, v.0.at-is, same v.0.bytes))))
 
-same_length : tie.Need-same-length
-same_length c = search rules
+same-length : tie.Need-same-length
+same-length c = search rules
 
 returns : tie.Need-returns
 returns c =
@@ -88,7 +88,7 @@ returns c =
     let m = c.before.before.before.before.before.before.before.before.before.before.mark-pair.ensures in
     let v = c.before.before.before.before.before.before.mark-some.ensures in
     let w = c.before.before.mark-pair2.ensures in
-    (renamed _ (text-is s i from to f t at d) (and_then m.0 (and_then v.0 w.0)), w.1 ∙ to_is s i from to f t)
+    (renamed _ (text-is s i from to f t at d) (and-then m.0 (and-then v.0 w.0)), w.1 ∙ to-is s i from to f t)
 
 pub mark-text-line-spec : {M : Type 1} → statement M
 mark-text-line-spec =
@@ -100,5 +100,5 @@ mark-text-line-spec =
     mark-pair-requires
     mark-some-requires
     mark-pair-requires-2
-    same_length
+    same-length
     returns)

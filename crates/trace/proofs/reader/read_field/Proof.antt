@@ -4,7 +4,7 @@ use mathlib.Core.Path.{◌≡◌, ◌∙◌}
 use native.Mathlib.Omega.{arith}
 use lib.ListN.{drop}
 use Rattle.rules.specs.Trace.{number}
-use Rattle.trace.proofs.Numbers.{top, top-three, number-turn, top-turn, number-start, number-end, top_start}
+use Rattle.trace.proofs.Numbers.{top, top-three, number-turn, top-turn, number-start, number-end, top-start}
 use borrow.Author.Rules.{rules}
 use Rattle.trace.proofs.reader.read_field.Statement.{statement}
 use Rattle.trace.proofs.reader.read_field.Tie as tie
@@ -16,7 +16,7 @@ abbrev decreases-loop : tie.decreases-loop
 decreases-loop trace at width value₀ i₀ value i = i
 
 loop-holds : tie.Need-loop-init invariant-loop decreases-loop
-loop-holds c = let a = c.args in (omega arith, top_start a.width, number-start a.trace.now a.width a.at)
+loop-holds c = let a = c.args in (omega arith, top-start a.width, number-start a.trace.now a.width a.at)
 
 sub-i : tie.Need-overflow-sub-i invariant-loop decreases-loop
 sub-i c = search rules

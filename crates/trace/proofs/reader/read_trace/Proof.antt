@@ -4,7 +4,7 @@ use mathlib.Core.Path.{◌≡◌, refl, sym, ◌∙◌, ap}
 use native.Mathlib.Omega.{arith}
 use lib.ListN.{length, drop}
 use Rattle.rules.specs.Trace.{width, readTrace, refusedRecord}
-use Rattle.trace.proofs.Flaws.{whole, read-on, read-stop, read_here}
+use Rattle.trace.proofs.Flaws.{whole, read-on, read-stop, read-here}
 use borrow.Author.Rules.{rules}
 use borrow.Author.Rules.{rules}
 use Rattle.trace.proofs.reader.read_trace.Statement.{statement}
@@ -37,8 +37,8 @@ shared-slice-read-record-length c =
 record-length-requires : tie.Need-record-length-requires invariant-loop decreases-loop
 record-length-requires c κs = search rules
 
-add_at : tie.Need-overflow-add-at invariant-loop decreases-loop
-add_at c =
+add-at : tie.Need-overflow-add-at invariant-loop decreases-loop
+add-at c =
     let l = c.before.before.before.before.before in
     omega (arith, (whole width l.before.before.args.trace.now l.loop.at (sym c.before.before.before.flaw.ensures ∙ c.before.before.if1.false)).fits, c.record-length.ensures)
 
@@ -63,7 +63,7 @@ record-at-requires : tie.Need-record-at-requires invariant-loop decreases-loop
 record-at-requires c κs = search rules
 
 returns-2 : tie.Need-returns-2 invariant-loop decreases-loop
-returns-2 c = let l = c.before.before in c.record-at.ensures ∙ sym (read_here width l.before.before.args.trace.now l.loop.at l.loop.left (omega arith)) ∙ l.loop.invariant.1
+returns-2 c = let l = c.before.before in c.record-at.ensures ∙ sym (read-here width l.before.before.args.trace.now l.loop.at l.loop.left (omega arith)) ∙ l.loop.invariant.1
 
 pub read-trace-spec : {M : Type 1} → statement M
 read-trace-spec =
@@ -76,7 +76,7 @@ read-trace-spec =
     returns
     shared-slice-read-record-length
     record-length-requires
-    add_at
+    add-at
     sub-left
     loop-less
     loop-again

@@ -2,7 +2,7 @@
 use mathlib.Core.Path.{sym, ◌∙◌, ap}
 use native.Mathlib.Omega.{arith}
 use Rattle.rules.specs.Trace.{refusedRecord}
-use Rattle.trace.proofs.Flaws.{whole, record-none, event-at, last-at, event-fits, last_fits}
+use Rattle.trace.proofs.Flaws.{whole, record-none, event-at, last-at, event-fits, last-fits}
 use Rattle.rules.specs.Trace.{width}
 use borrow.Author.Rules.{rules}
 use Rattle.trace.proofs.reader.record_at.Statement.{statement}
@@ -51,13 +51,13 @@ returns-2 : tie.Need-returns-2
 returns-2 c = rw (c.before.before.before.read-field.ensures, c.before.before.read-field2.ensures, c.before.read-field3.ensures) (sym (event-at width c.before.before.before.before.before.before.before.before.before.args.trace.now c.before.before.before.before.before.before.before.before.before.args.at (sym c.before.before.before.before.before.before.before.flaw.ensures ∙ c.before.before.before.before.before.before.if1.false) c.before.before.before.before.if2.true))
 
 read-field-requires-4 : tie.Need-read-field-requires-4
-read-field-requires-4 c κs = let f = last_fits width c.before.before.before.before.before.args.trace.now c.before.before.before.before.before.args.at (sym c.before.before.before.flaw.ensures ∙ c.before.before.if1.false) c.if2.false in (omega arith, omega arith)
+read-field-requires-4 c κs = let f = last-fits width c.before.before.before.before.before.args.trace.now c.before.before.before.before.before.args.at (sym c.before.before.before.flaw.ensures ∙ c.before.before.if1.false) c.if2.false in (omega arith, omega arith)
 
 add-t20 : tie.Need-overflow-add-t20
-add-t20 c = omega (arith, last_fits width c.before.before.before.before.before.before.args.trace.now c.before.before.before.before.before.before.args.at (sym c.before.before.before.before.flaw.ensures ∙ c.before.before.before.if1.false) c.before.if2.false)
+add-t20 c = omega (arith, last-fits width c.before.before.before.before.before.before.args.trace.now c.before.before.before.before.before.before.args.at (sym c.before.before.before.before.flaw.ensures ∙ c.before.before.before.if1.false) c.before.if2.false)
 
 shared-slice-read-t8 : tie.Need-shared-slice-read-t8
-shared-slice-read-t8 c = omega (arith, last_fits width c.before.before.before.before.before.before.before.args.trace.now c.before.before.before.before.before.before.before.args.at (sym c.before.before.before.before.before.flaw.ensures ∙ c.before.before.before.before.if1.false) c.before.before.if2.false)
+shared-slice-read-t8 c = omega (arith, last-fits width c.before.before.before.before.before.before.before.args.trace.now c.before.before.before.before.before.before.before.args.at (sym c.before.before.before.before.before.flaw.ensures ∙ c.before.before.before.before.if1.false) c.before.before.if2.false)
 
 returns-3 : tie.Need-returns-3
 returns-3 c = rw c.before.read-field4.ensures (sym (last-at width c.before.before.before.before.before.before.before.args.trace.now c.before.before.before.before.before.before.before.args.at (sym c.before.before.before.before.before.flaw.ensures ∙ c.before.before.before.before.if1.false) c.before.before.if2.false))

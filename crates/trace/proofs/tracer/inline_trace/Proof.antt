@@ -2,7 +2,7 @@
 use mathlib.Core.Path.{sym, ◌∙◌, ap}
 use Rattle.html.specs.Answer.{inlineOf}
 use Rattle.trace.proofs.Outputs.{found-by, none-by, refused-by}
-use Rattle.trace.proofs.Stops.{admitted, stop-between, found-passes, found_at, none_passes, refused-number, refused-some}
+use Rattle.trace.proofs.Stops.{admitted, stop-between, found-passes, found-at, none-passes, refused-number, refused-some}
 use borrow.Author.Rules.{rules}
 use Rattle.trace.proofs.tracer.inline_trace.Statement.{statement}
 use Rattle.trace.proofs.tracer.inline_trace.Tie as tie
@@ -18,7 +18,7 @@ trace-text-requires c κs =
     let a = c.before.before.before.before.before.before.before.args in
     let e = sym c.before.before.before.before.inline-scan.ensures ∙ ap inlineOf c.before.before.stop.given.1 in
     let m = admitted a.text.now a.index a.carry (found-passes a.text.now a.index a.carry _ _ e) in
-    let b = stop-between a.text.now a.index a.carry m.counted m.within _ _ (found_at a.text.now a.index a.carry _ _ e) in
+    let b = stop-between a.text.now a.index a.carry m.counted m.within _ _ (found-at a.text.now a.index a.carry _ _ e) in
     (m.small, b.from, b.to)
 
 enum-known-left : tie.Need-enum-known-left
@@ -30,8 +30,8 @@ trace-last-requires c κs = search rules
 enum-known-refusal : tie.Need-enum-known-refusal
 enum-known-refusal c = search rules
 
-same_length : tie.Need-same-length
-same_length c = search rules
+same-length : tie.Need-same-length
+same-length c = search rules
 
 returns : tie.Need-returns
 returns c =
@@ -46,7 +46,7 @@ returns-2 : tie.Need-returns-2
 returns-2 c =
     let a = c.before.before.before.before.before.before.before.before.before.before.args in
     let e = sym c.before.before.before.before.before.before.before.inline-scan.ensures ∙ ap inlineOf c.before.before.before.before.before.left.given.1 in
-    none-by a.text.now a.index a.carry a.out.now _ e (none_passes a.text.now a.index a.carry _ e) c.before.before.trace-last.ensures
+    none-by a.text.now a.index a.carry a.out.now _ e (none-passes a.text.now a.index a.carry _ e) c.before.before.trace-last.ensures
 
 returns-3 : tie.Need-returns-3
 returns-3 c =
@@ -64,7 +64,7 @@ inline-trace-spec =
     enum-known-left
     trace-last-requires
     enum-known-refusal
-    same_length
+    same-length
     returns
     same-length-2
     returns-2

@@ -1,7 +1,7 @@
 -- Each field is stored behind the one before, and storing keeps the length, so there is room for each.
 use mathlib.Core.Path.{◌∙◌}
 use native.Mathlib.Omega.{arith}
-use Rattle.lexical.proofs.Stores.{same_set, same}
+use Rattle.lexical.proofs.Stores.{same-set, same}
 use Rattle.trace.proofs.Stores.{event-steps}
 use Rattle.rules.specs.Trace.{width}
 use borrow.Author.Rules.{rules}
@@ -15,7 +15,7 @@ slice-write-out : tie.Need-slice-write-out
 slice-write-out c = search rules
 
 write-field-requires : tie.Need-write-field-requires
-write-field-requires c κs = let a = c.before.before.args in omega (arith, same_set a.out.now a.at a.kind)
+write-field-requires c κs = let a = c.before.before.args in omega (arith, same-set a.out.now a.at a.kind)
 
 add-write-field : tie.Need-overflow-add-write-field
 add-write-field c = search rules
@@ -23,7 +23,7 @@ add-write-field c = search rules
 write-field-requires-2 : tie.Need-write-field-requires-2
 write-field-requires-2 c κs =
     let a = c.before.before.before.before.before.before.args in
-    omega (arith, same_set a.out.now a.at a.kind, same c.before.before.before.write-field.ensures)
+    omega (arith, same-set a.out.now a.at a.kind, same c.before.before.before.write-field.ensures)
 
 mul-write-field : tie.Need-overflow-mul-write-field
 mul-write-field c = search rules
@@ -34,7 +34,7 @@ add-write-field-2 c = search rules
 write-field-requires-3 : tie.Need-write-field-requires-3
 write-field-requires-3 c κs =
     let a = c.before.before.before.before.before.before.before.before.before.before.args in
-    omega (arith, same_set a.out.now a.at a.kind, same c.before.before.before.before.before.before.before.write-field.ensures, same c.before.before.before.write-field2.ensures)
+    omega (arith, same-set a.out.now a.at a.kind, same c.before.before.before.before.before.before.before.write-field.ensures, same c.before.before.before.write-field2.ensures)
 
 cast-out : tie.Need-overflow-cast-out
 cast-out c = search rules
@@ -48,12 +48,12 @@ add-out c = search rules
 slice-write-out-2 : tie.Need-slice-write-out-2
 slice-write-out-2 c =
     let a = c.before.before.before.before.before.before.before.before.before.before.before.before.before.before.args in
-    omega (arith, same_set a.out.now a.at a.kind, same c.before.before.before.before.before.before.before.before.before.before.before.write-field.ensures, same c.before.before.before.before.before.before.before.write-field2.ensures, same c.before.before.before.write-field3.ensures)
+    omega (arith, same-set a.out.now a.at a.kind, same c.before.before.before.before.before.before.before.before.before.before.before.write-field.ensures, same c.before.before.before.before.before.before.before.write-field2.ensures, same c.before.before.before.write-field3.ensures)
 
-same_length : tie.Need-same-length
-same_length c =
+same-length : tie.Need-same-length
+same-length c =
     let a = c.before.before.before.before.before.before.before.before.before.before.before.before.before.before.args in
-    same_set c.before.before.before.write-field3.new.0 _ _ ∙ same c.before.before.before.write-field3.ensures ∙ same c.before.before.before.before.before.before.before.write-field2.ensures ∙ same c.before.before.before.before.before.before.before.before.before.before.before.write-field.ensures ∙ same_set a.out.now a.at a.kind
+    same-set c.before.before.before.write-field3.new.0 _ _ ∙ same c.before.before.before.write-field3.ensures ∙ same c.before.before.before.before.before.before.before.write-field2.ensures ∙ same c.before.before.before.before.before.before.before.before.before.before.before.write-field.ensures ∙ same-set a.out.now a.at a.kind
 
 returns : tie.Need-returns
 returns c =
@@ -76,5 +76,5 @@ write-event-spec =
     mul-out
     add-out
     slice-write-out-2
-    same_length
+    same-length
     returns)

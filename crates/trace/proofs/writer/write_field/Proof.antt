@@ -1,5 +1,5 @@
-use Rattle.lexical.proofs.Stores.{same_set}
-use Rattle.trace.proofs.Stores.{field-turn, field_end, field-start}
+use Rattle.lexical.proofs.Stores.{same-set}
+use Rattle.trace.proofs.Stores.{field-turn, field-end, field-start}
 -- The invariant: the rest stored from here on gives the whole.
 use Prim.Native.Nat.{◌+◌, ◌-◌}
 use mathlib.Core.Path.{◌≡◌, refl, sym, ◌∙◌}
@@ -38,16 +38,16 @@ loop-again : tie.Need-loop-preserved invariant-loop decreases-loop
 loop-again c =
     let l = c.before in
     let a = l.before.args in
-    (same_set l.loop.out _ _ ∙ l.loop.invariant.0, field-turn l.loop.out a.at a.width l.loop.i l.loop.rest c.loop-test.true ∙ l.loop.invariant.1)
+    (same-set l.loop.out _ _ ∙ l.loop.invariant.0, field-turn l.loop.out a.at a.width l.loop.i l.loop.rest c.loop-test.true ∙ l.loop.invariant.1)
 
-same_length : tie.Need-same-length invariant-loop decreases-loop
-same_length c = search rules
+same-length : tie.Need-same-length invariant-loop decreases-loop
+same-length c = search rules
 
 returns : tie.Need-returns invariant-loop decreases-loop
 returns c =
     let l = c.before in
     let a = l.before.args in
-    record { is = sym (field_end l.loop.out a.at a.width l.loop.i l.loop.rest c.loop-test.false) ∙ l.loop.invariant.1 }
+    record { is = sym (field-end l.loop.out a.at a.width l.loop.i l.loop.rest c.loop-test.false) ∙ l.loop.invariant.1 }
 
 pub write-field-spec : {M : Type 1} → statement M
 write-field-spec =
@@ -62,5 +62,5 @@ write-field-spec =
     add-i
     loop-less
     loop-again
-    same_length
+    same-length
     returns)

@@ -1,6 +1,6 @@
 use mathlib.Core.Path.{◌∙◌}
 use native.Mathlib.Omega.{arith}
-use Rattle.lexical.proofs.Stores.{same_set, same}
+use Rattle.lexical.proofs.Stores.{same-set, same}
 use Rattle.trace.proofs.Stores.{last-steps}
 use Rattle.rules.specs.Trace.{width}
 use borrow.Author.Rules.{rules}
@@ -14,7 +14,7 @@ slice-write-out : tie.Need-slice-write-out
 slice-write-out c = search rules
 
 write-field-requires : tie.Need-write-field-requires
-write-field-requires c κs = let a = c.before.before.args in omega (arith, same_set a.out.now a.at a.kind)
+write-field-requires c κs = let a = c.before.before.args in omega (arith, same-set a.out.now a.at a.kind)
 
 add-out : tie.Need-overflow-add-out
 add-out c = search rules
@@ -22,12 +22,12 @@ add-out c = search rules
 slice-write-out-2 : tie.Need-slice-write-out-2
 slice-write-out-2 c =
     let a = c.before.before.before.before.before.args in
-    omega (arith, same_set a.out.now a.at a.kind, same c.before.before.write-field.ensures)
+    omega (arith, same-set a.out.now a.at a.kind, same c.before.before.write-field.ensures)
 
-same_length : tie.Need-same-length
-same_length c =
+same-length : tie.Need-same-length
+same-length c =
     let a = c.before.before.before.before.before.args in
-    same_set c.before.before.write-field.new.0 _ _ ∙ same c.before.before.write-field.ensures ∙ same_set a.out.now a.at a.kind
+    same-set c.before.before.write-field.new.0 _ _ ∙ same c.before.before.write-field.ensures ∙ same-set a.out.now a.at a.kind
 
 returns : tie.Need-returns
 returns c =
@@ -43,5 +43,5 @@ write-last-spec =
     write-field-requires
     add-out
     slice-write-out-2
-    same_length
+    same-length
     returns)

@@ -18,10 +18,10 @@ use Rattle.walk.proofs.closers.is_cdata.Statement.{statement}
 use Rattle.walk.proofs.closers.is_cdata.Tie as tie
 
 -- `<![` and the prefix behind it
-by_parts : (text : List ℕ) (i : ℕ) (t : Bool) → begins (bytes "<![") (drop i text) ≡ t
+by-parts : (text : List ℕ) (i : ℕ) (t : Bool) → begins (bytes "<![") (drop i text) ≡ t
     → begins (bytes "<![CDATA[") (drop i text) ≡ (t && eqb (cdataLetters 0 (drop (i + 3) text)) 6)
 unfolding cdataPrefix
-by_parts text i t h =
+by-parts text i t h =
     begins-parts (bytes "<![") cdataPrefix (drop i text)
     ∙ ap (λ b. b && begins cdataPrefix (drop 3 (drop i text))) h
     ∙ ap (λ s. t && begins cdataPrefix s) (drop-drop 3 i text)
@@ -34,7 +34,7 @@ begins-with-requires : tie.Need-begins-with-requires
 begins-with-requires c κs = search rules
 
 returns : tie.Need-returns
-returns c = let a = c.before.before.before.before.args in sym (by_parts a.text.now a.index false (sym c.before.begins-with.ensures ∙ not-true _ c.if1.true))
+returns c = let a = c.before.before.before.before.args in sym (by-parts a.text.now a.index false (sym c.before.begins-with.ensures ∙ not-true _ c.if1.true))
 
 add-cdata-letters : tie.Need-overflow-add-cdata-letters
 add-cdata-letters c = let a = c.before.before.before.before.args in let h = begins-fits (bytes "<![") a.text.now a.index (omega arith) (sym c.before.begins-with.ensures ∙ not-false _ c.if1.false) in search (rules, h)
@@ -43,7 +43,7 @@ cdata-letters-requires : tie.Need-cdata-letters-requires
 cdata-letters-requires c κs = search rules
 
 returns-2 : tie.Need-returns-2
-returns-2 c = let a = c.before.before.before.before.before.args in ap (λ (n : ℕ). eqb n 6) c.cdata-letters.ensures ∙ sym (by_parts a.text.now a.index true (sym c.before.before.begins-with.ensures ∙ not-false _ c.before.if1.false))
+returns-2 c = let a = c.before.before.before.before.before.args in ap (λ (n : ℕ). eqb n 6) c.cdata-letters.ensures ∙ sym (by-parts a.text.now a.index true (sym c.before.before.begins-with.ensures ∙ not-false _ c.before.if1.false))
 
 pub is-cdata-spec : {M : Type 1} → statement M
 is-cdata-spec =

@@ -3,8 +3,8 @@ use borrow.Author.Rules.{rules}
 use Rattle.walk.proofs.closers.without.Statement.{statement}
 use Rattle.walk.proofs.closers.without.Tie as tie
 
-enum_told : tie.Need-enum-told
-enum_told c = search rules
+enum-told : tie.Need-enum-told
+enum-told c = search rules
 
 enum-told-2 : tie.Need-enum-told-2
 enum-told-2 c = search rules
@@ -19,7 +19,7 @@ enum-told-5 : tie.Need-enum-told-5
 enum-told-5 c = search rules
 
 returns : tie.Need-returns
-returns c = rw c.enum_told.given.1 refl
+returns c = rw c.enum-told.given.1 refl
 
 returns-2 : tie.Need-returns-2
 returns-2 c = rw c.enum-told2.given.1 refl
@@ -37,7 +37,7 @@ pub without-spec : {M : Type 1} → statement M
 without-spec =
     tie.close
     (tie.spec
-    enum_told
+    enum-told
     enum-told-2
     enum-told-3
     enum-told-4

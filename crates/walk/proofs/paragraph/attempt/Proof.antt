@@ -23,8 +23,8 @@ inline-at-requires c κs = search rules
 enum-known-stop : tie.Need-enum-known-stop
 enum-known-stop c = search rules
 
-enum_told : tie.Need-enum-told
-enum_told c = search rules
+enum-told : tie.Need-enum-told
+enum-told c = search rules
 
 without-requires : tie.Need-without-requires
 without-requires c κs = search rules
@@ -38,7 +38,7 @@ returns-2 c known = let a = c.before.before.before.before.before.before.before.b
 returns-3 : tie.Need-returns-3
 returns-3 c known = let a = c.before.before.before.before.before.before.before.before.args in
     subst (Lacked a.rules a.text.now a.index) (sym (c.without.ensures ∙ ap (without a.closers) c.before.before.before.before.before.before.form-at.ensures))
-    (lacked a.rules a.text.now a.index c.before.before.before.before.before.before.before.before.requires a.closers _ (sym (sym c.before.before.before.inline-at.ensures ∙ ap inlineOf c.before.enum_told.given.1)) known)
+    (lacked a.rules a.text.now a.index c.before.before.before.before.before.before.before.before.requires a.closers _ (sym (sym c.before.before.before.inline-at.ensures ∙ ap inlineOf c.before.enum-told.given.1)) known)
 
 returns-4 : tie.Need-returns-4
 returns-4 c known = let a = c.before.before.before.before.before.before.before.args in absurd (none-refused a.rules a.text.now a.index c.before.before.before.before.before.before.before.requires _ _ (sym (sym c.before.before.inline-at.ensures ∙ ap inlineOf c.enum-told2.given.1)))
@@ -52,7 +52,7 @@ attempt-spec =
     returns
     inline-at-requires
     enum-known-stop
-    enum_told
+    enum-told
     without-requires
     enum-told-2
     returns-2

@@ -3,7 +3,7 @@ use Prim.Native.Nat.{◌-◌}
 use lib.ListN.{length, drop}
 use Rattle.walk.specs.Closer.{Known}
 use Rattle.walk.specs.Remaining.{Attempt}
-use Rattle.walk.proofs.InlineSteps.{AtOpening, to-opening, onward, past-opening, none_left}
+use Rattle.walk.proofs.InlineSteps.{AtOpening, to-opening, onward, past-opening, none-left}
 use borrow.Author.Rules.{rules}
 use Rattle.walk.proofs.paragraph.next_inline.Statement.{statement}
 use Rattle.walk.proofs.paragraph.next_inline.Tie as tie
@@ -47,7 +47,7 @@ loop-again c known = let a = c.before.before.before.before.before.before.before.
     past-opening a.rules a.text.now a.index _ _ at c.before.before.before.before.before.loop-test.true _ (subst (Attempt a.rules a.text.now c.before.before.before.before.before.before.loop.start) c.before.before.left.given.1 (c.before.before.before.before.attempt.ensures at.known)) _ c.next-open2.ensures
 
 returns-2 : tie.Need-returns-2 invariant-loop decreases-loop
-returns-2 c known = let a = c.before.before.before.before.args in none_left a.rules a.text.now a.index _ _ (c.before.loop.invariant known) c.loop-test.false
+returns-2 c known = let a = c.before.before.before.before.args in none-left a.rules a.text.now a.index _ _ (c.before.loop.invariant known) c.loop-test.false
 
 pub next-inline-spec : {M : Type 1} → statement M
 next-inline-spec =

@@ -3,14 +3,14 @@ use mathlib.Core.Bool.{not}
 use Prim.Native.Nat.{◌-◌}
 use lib.ListN.{length}
 use borrow.Author.Tests.{eq-eqb, ne_eqb}
-use Rattle.lexical.proofs.Run.{runEnd, run_on, run-stop, run-over}
-use Rattle.walk.proofs.Paragraphs.{no_open}
+use Rattle.lexical.proofs.Run.{runEnd, run-on, run-stop, run-over}
+use Rattle.walk.proofs.Paragraphs.{noOpen}
 use borrow.Author.Rules.{rules}
 use Rattle.walk.proofs.paragraph.next_open.Statement.{statement}
 use Rattle.walk.proofs.paragraph.next_open.Tie as tie
 
 abbrev invariant-loop : tie.invariant-loop
-invariant-loop text index i₀ i = runEnd no_open text i ≡ runEnd no_open text index
+invariant-loop text index i₀ i = runEnd noOpen text i ≡ runEnd noOpen text index
 
 abbrev decreases-loop : tie.decreases-loop
 decreases-loop text index i₀ i = length text - i
@@ -22,7 +22,7 @@ shared-slice-read-if1 : tie.Need-shared-slice-read-if1 invariant-loop decreases-
 shared-slice-read-if1 c = search rules
 
 returns : tie.Need-returns invariant-loop decreases-loop
-returns c = sym (run-stop no_open _ _ c.before.before.loop-test.true (ap not (eq-eqb _ _ c.if1.true))) ∙ c.before.before.before.loop.invariant
+returns c = sym (run-stop noOpen _ _ c.before.before.loop-test.true (ap not (eq-eqb _ _ c.if1.true))) ∙ c.before.before.before.loop.invariant
 
 add-i : tie.Need-overflow-add-i invariant-loop decreases-loop
 add-i c = search rules
@@ -31,10 +31,10 @@ loop-less : tie.Need-loop-smaller invariant-loop decreases-loop
 loop-less c = search rules
 
 loop-again : tie.Need-loop-preserved invariant-loop decreases-loop
-loop-again c = run_on no_open _ _ c.before.before.loop-test.true (ap not (ne_eqb _ _ c.if1.false)) ∙ c.before.before.before.loop.invariant
+loop-again c = run-on noOpen _ _ c.before.before.loop-test.true (ap not (ne_eqb _ _ c.if1.false)) ∙ c.before.before.before.loop.invariant
 
 returns-2 : tie.Need-returns-2 invariant-loop decreases-loop
-returns-2 c = sym (run-over no_open _ _ c.loop-test.false) ∙ c.before.loop.invariant
+returns-2 c = sym (run-over noOpen _ _ c.loop-test.false) ∙ c.before.loop.invariant
 
 pub next-open-spec : {M : Type 1} → statement M
 next-open-spec =

@@ -3,7 +3,7 @@ use Prim.Native.Nat.{◌+◌, ◌-◌}
 use lib.ListN.{length, drop}
 use Rattle.flow.proofs.BlockSteps.{next-flags}
 use Rattle.lexical.specs.Line.{lineLength}
-use Rattle.walk.proofs.Paragraphs.{Along, along-first, along-next, ends-before, ends_with}
+use Rattle.walk.proofs.Paragraphs.{Along, along-first, along-next, ends-before, ends-with}
 use Rattle.walk.proofs.FromLine.{farther}
 use borrow.Author.Rules.{rules}
 use Rattle.walk.proofs.paragraph.paragraph_end.Statement.{statement}
@@ -47,7 +47,7 @@ loop-again : tie.Need-loop-preserved invariant-loop decreases-loop
 loop-again c = let a = c.before.before.before.before.before.before.before.before.before.before.before.args in along-next a.rules a.bulletin.now a.flags.now _ _ _ _ c.before.before.before.before.before.before.loop.invariant _ _ c.before.before.before.before.next-line.ensures c.before.line-end2.ensures c.before.before.before.before.before.loop-test.true _ (next-flags a.flags.now _ _ c.next-number2.ensures) (sym c.before.before.before.ends-paragraph.ensures ∙ c.before.before.if1.false)
 
 returns-2 : tie.Need-returns-2 invariant-loop decreases-loop
-returns-2 c = let a = c.before.before.before.before.before.before.args in ends_with a.rules a.bulletin.now a.flags.now a.index a.line _ _ _ (next-flags a.flags.now _ _ c.before.before.next-number.ensures) c.before.loop.invariant c.loop-test.false
+returns-2 c = let a = c.before.before.before.before.before.before.args in ends-with a.rules a.bulletin.now a.flags.now a.index a.line _ _ _ (next-flags a.flags.now _ _ c.before.before.next-number.ensures) c.before.loop.invariant c.loop-test.false
 
 pub paragraph-end-spec : {M : Type 1} → statement M
 paragraph-end-spec =

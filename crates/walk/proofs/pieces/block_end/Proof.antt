@@ -6,7 +6,7 @@ use lib.ListN.{length, drop}
 use borrow.Author.Tests.{ltb-true}
 use Rattle.flow.proofs.BlockSteps.{next-flags}
 use Rattle.lexical.specs.Line.{lineLength}
-use Rattle.lexical.proofs.Cases.{and_left, and_right}
+use Rattle.lexical.proofs.Cases.{and-left, and-right}
 use Rattle.walk.proofs.BlockLines.{Passing, passing-first, passing-next, block-end}
 use Rattle.walk.proofs.FromLine.{farther}
 use borrow.Author.Rules.{rules}
@@ -41,14 +41,14 @@ loop-less : tie.Need-loop-smaller invariant-loop decreases-loop
 loop-less c = let a = c.before.before.before.before.before.before.before.before.before.args in
     let e = c.before.before.before.before.loop.end in
     let t : (ltb e a.stop && ltb e (length a.bulletin.now)) ≡ true = c.before.before.before.loop-test.true in
-    let l = ltb-true e (length a.bulletin.now) (and_right (ltb e a.stop) (ltb e (length a.bulletin.now)) t) in
+    let l = ltb-true e (length a.bulletin.now) (and-right (ltb e a.stop) (ltb e (length a.bulletin.now)) t) in
     let h = farther a.bulletin.now e _ _ c.before.before.next-line.ensures c.before.line-end2.ensures c.before.before.before.before.loop.invariant.ended l in search (rules, h, l)
 
 loop-again : tie.Need-loop-preserved invariant-loop decreases-loop
 loop-again c = let a = c.before.before.before.before.before.before.before.before.before.args in
     let e = c.before.before.before.before.loop.end in
     let t : (ltb e a.stop && ltb e (length a.bulletin.now)) ≡ true = c.before.before.before.loop-test.true in
-    passing-next a.bulletin.now a.flags.now a.stop _ _ _ _ c.before.before.before.before.loop.invariant _ _ c.before.before.next-line.ensures c.before.line-end2.ensures (ltb-true e (length a.bulletin.now) (and_right (ltb e a.stop) (ltb e (length a.bulletin.now)) t)) _ (next-flags a.flags.now _ _ c.next-number2.ensures) (ltb-true e a.stop (and_left (ltb e a.stop) (ltb e (length a.bulletin.now)) t))
+    passing-next a.bulletin.now a.flags.now a.stop _ _ _ _ c.before.before.before.before.loop.invariant _ _ c.before.before.next-line.ensures c.before.line-end2.ensures (ltb-true e (length a.bulletin.now) (and-right (ltb e a.stop) (ltb e (length a.bulletin.now)) t)) _ (next-flags a.flags.now _ _ c.next-number2.ensures) (ltb-true e a.stop (and-left (ltb e a.stop) (ltb e (length a.bulletin.now)) t))
 
 returns : tie.Need-returns invariant-loop decreases-loop
 returns c = let a = c.before.before.before.before.before.before.args in block-end a.bulletin.now a.flags.now a.stop a.index a.line _ _ _ (next-flags a.flags.now _ _ c.before.before.next-number.ensures) c.before.loop.invariant c.loop-test.false

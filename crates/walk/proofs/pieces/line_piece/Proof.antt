@@ -2,7 +2,7 @@ use mathlib.Core.Path.{◌≡◌, refl, ◌∙◌, subst}
 use Prim.Native.Nat.{◌-◌}
 use lib.ListN.{length}
 use Rattle.walk.specs.Remaining.{fromLine, TurnTo}
-use Rattle.walk.proofs.FromLine.{no_more}
+use Rattle.walk.proofs.FromLine.{no-more}
 use Rattle.walk.proofs.Places.{leads-as}
 use borrow.Author.Rules.{rules}
 use Rattle.walk.proofs.pieces.line_piece.Statement.{statement}
@@ -36,7 +36,7 @@ loop-again : tie.Need-loop-preserved invariant-loop decreases-loop
 loop-again c = let a = c.before.before.before.before.before.before.before.before.before.args in let s = subst (TurnTo a.rules a.bulletin.now a.flags.now _) c.before.behind.given.1 c.before.before.before.line-turn.ensures in c.before.before.before.before.before.before.loop.invariant ∙ s.is
 
 returns-2 : tie.Need-returns-2 invariant-loop decreases-loop
-returns-2 c = let a = c.before.before.before.before.before.args in c.before.before.loop.invariant ∙ no_more a.rules a.bulletin.now a.flags.now _ _ c.if1.false
+returns-2 c = let a = c.before.before.before.before.before.args in c.before.before.loop.invariant ∙ no-more a.rules a.bulletin.now a.flags.now _ _ c.if1.false
 
 pub line-piece-spec : {M : Type 1} → statement M
 line-piece-spec =

@@ -17,12 +17,12 @@ enum-known-found c = search rules
 block-line-requires : tie.Need-block-line-requires
 block-line-requires c κs = (c.before.before.before.before.before.before.requires, record { found = _; stops = refl; is = sym c.before.before.before.block_at.ensures ∙ ap blockAnswerOf c.before.found.given.1 })
 
-enum_told : tie.Need-enum-told
-enum_told c = search rules
+enum-told : tie.Need-enum-told
+enum-told c = search rules
 
 text-line-requires : tie.Need-text-line-requires
 text-line-requires c κs = let a = c.before.before.before.before.before.args in
-    (c.before.before.before.before.before.requires, eqb-true _ _ (not-false _ (opens a.rules a.bulletin.now a.flags.now a.cursor.next a.cursor.line _ (sym c.before.before.block_at.ensures ∙ ap blockAnswerOf c.enum_told.given.1))))
+    (c.before.before.before.before.before.requires, eqb-true _ _ (not-false _ (opens a.rules a.bulletin.now a.flags.now a.cursor.next a.cursor.line _ (sym c.before.before.block_at.ensures ∙ ap blockAnswerOf c.enum-told.given.1))))
 
 enum-told-2 : tie.Need-enum-told-2
 enum-told-2 c = search rules
@@ -44,7 +44,7 @@ line-turn-spec =
     block-at-requires
     enum-known-found
     block-line-requires
-    enum_told
+    enum-told
     text-line-requires
     enum-told-2
     returns

@@ -14,8 +14,8 @@ next-inline-requires c κs = search rules
 enum-known-start : tie.Need-enum-known-start
 enum-known-start c = search rules
 
-enum_told : tie.Need-enum-told
-enum_told c = search rules
+enum-told : tie.Need-enum-told
+enum-told c = search rules
 
 line-piece-requires : tie.Need-line-piece-requires
 line-piece-requires c κs = search rules
@@ -28,7 +28,7 @@ returns c valid = let a = c.before.before.before.before.before.before.before.arg
 returns-2 : tie.Need-returns-2
 returns-2 c valid = let a = c.before.before.before.before.before.before.before.args in let f = c.before.before.before.before.from-indices.ensures in
     subst (λ ps. Goes a.rules a.bulletin.now a.flags.now ps c.line-piece.result)
-    (sym (paragraph-over a.rules a.bulletin.now a.flags.now a.cursor valid _ f (subst (NextInline a.rules _ _) c.before.enum_told.given.1 (c.before.before.before.next-inline.ensures (inner-known a.rules a.bulletin.now a.flags.now a.cursor valid _ f)))))
+    (sym (paragraph-over a.rules a.bulletin.now a.flags.now a.cursor valid _ f (subst (NextInline a.rules _ _) c.before.enum-told.given.1 (c.before.before.before.next-inline.ensures (inner-known a.rules a.bulletin.now a.flags.now a.cursor valid _ f)))))
     c.line-piece.ensures
 
 pub next-piece-spec : {M : Type 1} → statement M
@@ -38,7 +38,7 @@ next-piece-spec =
     from-indices-requires
     next-inline-requires
     enum-known-start
-    enum_told
+    enum-told
     line-piece-requires
     returns
     returns-2)

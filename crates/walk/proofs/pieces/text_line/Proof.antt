@@ -44,8 +44,8 @@ next-inline-requires c κs = search rules
 enum-known-start : tie.Need-enum-known-start
 enum-known-start c = search rules
 
-enum_told : tie.Need-enum-told
-enum_told c = search rules
+enum-told : tie.Need-enum-told
+enum-told c = search rules
 
 at-line-requires-2 : tie.Need-at-line-requires-2
 at-line-requires-2 c κs = search rules
@@ -58,7 +58,7 @@ returns-2 c = let a = c.before.before.before.before.before.before.before.before.
 returns-3 : tie.Need-returns-3
 returns-3 c = let a = c.before.before.before.before.before.before.before.before.before.before.before.before.before.args in let pre = c.before.before.before.before.before.before.before.before.before.before.before.before.before.requires in
     paragraph-same a.rules a.bulletin.now a.flags.now a.cursor pre.0 pre.1 _ c.before.before.before.before.before.before.before.before.before.before.mark-or-line-end.ensures (sym c.before.before.before.before.before.before.before.before.before.peek.ensures ∙ c.before.before.before.before.before.before.before.before.if1.false) _ c.before.before.before.before.before.before.before.paragraph-end.ensures _ c.before.before.before.before.before.from-indices.ensures _ c.before.before.before.before.before.before.next-line2.ensures _ c.at-line2.ensures
-    (subst (NextInline a.rules _ _) c.before.enum_told.given.1 (c.before.before.before.next-inline.ensures (known-all _ c.before.before.before.before.all-ahead.ensures _)))
+    (subst (NextInline a.rules _ _) c.before.enum-told.given.1 (c.before.before.before.next-inline.ensures (known-all _ c.before.before.before.before.all-ahead.ensures _)))
 
 pub text-line-spec : {M : Type 1} → statement M
 text-line-spec =
@@ -76,7 +76,7 @@ text-line-spec =
     all-ahead-requires
     next-inline-requires
     enum-known-start
-    enum_told
+    enum-told
     at-line-requires-2
     returns-2
     returns-3)

@@ -45,23 +45,23 @@ is-other (pos n) h = ne_eqb n 4 h
 is-other (negsuc n) h = refl
 
 -- ---- patience
-one_less : (patience : ℕ) → (patience ≡ 0 → ⊥) → Again 0 (patience - 1) ≡ unsuccessful true patience
-one_less (suc n) h = let z : suc n - 1 ≡ n = omega arith in rw z
-one_less zero h = absurd (h refl)
+one-less : (patience : ℕ) → (patience ≡ 0 → ⊥) → Again 0 (patience - 1) ≡ unsuccessful true patience
+one-less (suc n) h = let z : suc n - 1 ≡ n = omega arith in rw z
+one-less zero h = absurd (h refl)
 
 -- ---- what is read back is the answer itself
 module _ (z error : ℤ) (patience : ℕ) (fits : SFits w64 z) where
-  read_back : to_z w64 (of_z w64 z) ≡ z
-  read_back = to_z-of_z fits
+  read-back : to_z w64 (of_z w64 z) ≡ z
+  read-back = to_z-of_z fits
 
   moved : lt_z (pos 0) (to_z w64 (of_z w64 z)) ≡ true → Again (nat_abs (to_z w64 (of_z w64 z))) patience ≡ toldOf z error patience
-  moved t = above (to_z w64 (of_z w64 z)) error patience t ∙ ap (λ a. toldOf a error patience) read_back
+  moved t = above (to_z w64 (of_z w64 z)) error patience t ∙ ap (λ a. toldOf a error patience) read-back
 
   stopped : lt_z (to_z w64 (of_z w64 z)) (pos 0) ≡ true → toldOf z error patience ≡ unsuccessful (isInterruption error) patience
-  stopped t = below z error patience (ap (λ a. lt_z a (pos 0)) (sym read_back) ∙ t)
+  stopped t = below z error patience (ap (λ a. lt_z a (pos 0)) (sym read-back) ∙ t)
 
   ended : lt_z (pos 0) (to_z w64 (of_z w64 z)) ≡ false → lt_z (to_z w64 (of_z w64 z)) (pos 0) ≡ false → Nothing ≡ toldOf z error patience
-  ended t u = neither z error patience (ap (lt_z (pos 0)) (sym read_back) ∙ t) (ap (λ a. lt_z a (pos 0)) (sym read_back) ∙ u)
+  ended t u = neither z error patience (ap (lt_z (pos 0)) (sym read-back) ∙ t) (ap (λ a. lt_z a (pos 0)) (sym read-back) ∙ u)
 
 cast-count : tie.Need-overflow-cast-count
 cast-count c =
@@ -90,7 +90,7 @@ returns-4 : tie.Need-returns-4
 returns-4 c =
     let a = c.before.before.before.before in
     let s = stopped a.args.answer a.args.error a.args.patience a.ranges.answer c.before.before.if2.true in
-    one_less a.args.patience c.if4.false
+    one-less a.args.patience c.if4.false
     ∙ sym (s ∙ ap (λ b. unsuccessful b a.args.patience) (is-interruption a.args.error a.ranges.error c.before.if3.false))
 
 returns-5 : tie.Need-returns-5

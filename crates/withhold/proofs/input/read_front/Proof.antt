@@ -69,8 +69,8 @@ module _ (k : tie.After-count) where
   abbrev part : List ℕ
   part = take (count - 0) filled
 
-  part_length : length part ≡ count
-  part_length = exact count filled held
+  part-length : length part ≡ count
+  part-length = exact count filled held
 
 buffer-requires : tie.Need-buffer-requires
 buffer-requires c κs = search rules
@@ -78,8 +78,8 @@ buffer-requires c κs = search rules
 least-requires : tie.Need-least-requires
 least-requires c κs = search rules
 
-sub_read : tie.Need-overflow-sub-read
-sub_read c = search rules
+sub-read : tie.Need-overflow-sub-read
+sub-read c = search rules
 
 part-chunk-start : tie.Need-slice-bounds-chunk-start
 part-chunk-start c = search rules
@@ -109,18 +109,18 @@ part-copy-end : tie.Need-slice-bounds-copy-end
 part-copy-end c = held c.before.before
 
 copy-requires : tie.Need-copy-requires
-copy-requires c κs = let k = c.before.before.before.before in let e = part_length k in let f = fits k in omega arith
+copy-requires c κs = let k = c.before.before.before.before in let e = part-length k in let f = fits k in omega arith
 
-same_length : tie.Need-same-length
-same_length c = search rules
+same-length : tie.Need-same-length
+same-length c = search rules
 
 returns : tie.Need-returns
 returns c =
     let k = c.before.before.before.before.before.before.before in
-    (copied (count k) (part k) _ _ (part_length k) (fits k) c.before.before.copy.ensures.1, (took k).1)
+    (copied (count k) (part k) _ _ (part-length k) (fits k) c.before.before.copy.ensures.1, (took k).1)
 
-enum_told : tie.Need-enum-told
-enum_told c = search rules
+enum-told : tie.Need-enum-told
+enum-told c = search rules
 
 returns-2 : tie.Need-returns-2
 returns-2 c = search rules
@@ -137,7 +137,7 @@ read-front-spec =
     (tie.spec
     buffer-requires
     least-requires
-    sub_read
+    sub-read
     part-chunk-start
     part-chunk-end
     read-requires
@@ -148,9 +148,9 @@ read-front-spec =
     part-copy-start
     part-copy-end
     copy-requires
-    same_length
+    same-length
     returns
-    enum_told
+    enum-told
     returns-2
     enum-told-2
     returns-3)

@@ -83,8 +83,8 @@ module _ (c : tie.After-known-told invariant-loop decreases-loop) where
   again : Front (a r).loop.patience (Again count left) (lent r) (back r)
   again = told r (Again count left) c.before.count.given.1
 
-add_done : tie.Need-overflow-add-done invariant-loop decreases-loop
-add_done c = let f = further (r c) (count c) (again c).0 in omega arith
+add-done : tie.Need-overflow-add-done invariant-loop decreases-loop
+add-done c = let f = further (r c) (count c) (again c).0 in omega arith
 
 loop-less : tie.Need-loop-smaller invariant-loop decreases-loop
 loop-less c = let f = further (r c) (count c) (again c).0 in let t = again c in omega arith
@@ -92,14 +92,14 @@ loop-less c = let f = further (r c) (count c) (again c).0 in let t = again c in 
 loop-again : tie.Need-loop-preserved invariant-loop decreases-loop
 loop-again c = further (r c) (count c) (again c).0
 
-enum_told : tie.Need-enum-told invariant-loop decreases-loop
-enum_told c = search rules
+enum-told : tie.Need-enum-told invariant-loop decreases-loop
+enum-told c = search rules
 
-same_length : tie.Need-same-length invariant-loop decreases-loop
-same_length c = search rules
+same-length : tie.Need-same-length invariant-loop decreases-loop
+same-length c = search rules
 
 returns : tie.Need-returns invariant-loop decreases-loop
-returns c = let r = c.before.before.before.before in unchanged r (told r Nothing c.enum_told.given.1)
+returns c = let r = c.before.before.before.before in unchanged r (told r Nothing c.enum-told.given.1)
 
 enum-told-2 : tie.Need-enum-told-2 invariant-loop decreases-loop
 enum-told-2 c = search rules
@@ -128,11 +128,11 @@ read-input-spec =
     part-read-front-end
     read-front-requires
     enum-known-count
-    add_done
+    add-done
     loop-less
     loop-again
-    enum_told
-    same_length
+    enum-told
+    same-length
     returns
     enum-told-2
     same-length-2

@@ -1,7 +1,7 @@
 use Rattle.lexical.proofs.Moves.{arrived}
 use Rattle.std.proofs.Common.{◌+◌, ◌-◌, drop, sym, refl, ap, ◌∙◌}
 use Rattle.lexical.specs.Point.{movedBy}
-use Rattle.lexical.proofs.Moves.{turn, moved_out}
+use Rattle.lexical.proofs.Moves.{turn, moved-out}
 use Rattle.lexical.proofs.event.Point.move_to.Goals as goal
 
 pub loop-i-init : goal.loop-i-init
@@ -9,7 +9,7 @@ loop-i-init c = refl
 
 pub returns-then-i-bytes : goal.returns-then-i-bytes
 returns-then-i-bytes c = let args = c.args in
-    sym (moved_out c.loop-i.point args.bytes.now c.loop-i.i (args.index - c.loop-i.i) c.if-i-bytes.true) ∙ c.loop-i.invariant
+    sym (moved-out c.loop-i.point args.bytes.now c.loop-i.i (args.index - c.loop-i.i) c.if-i-bytes.true) ∙ c.loop-i.invariant
 
 pub loop-i-preserved : goal.loop-i-preserved
 loop-i-preserved c = let args = c.args in
