@@ -31,6 +31,7 @@ use rules::Rules;
 //
 //     a <b> c
 //       ^
+#[tactic(auto, unfolding(crate::specs::TextMachine::startOf))]
 pub(crate) fn start(size: u8, b: u8) -> State
     ensures { result ≡ startOf size b }
 {
@@ -48,6 +49,7 @@ pub(crate) fn start(size: u8, b: u8) -> State
 //        ^
 //     a <!--b--> c
 //        ^
+#[tactic(auto, unfolding(crate::specs::TextMachine::openOf))]
 pub(crate) fn open(size: u8, b: u8) -> State
     ensures { result ≡ openOf size b }
 {
@@ -71,6 +73,7 @@ pub(crate) fn open(size: u8, b: u8) -> State
 //         ^
 //     a <![CDATA[>&<]]> c
 //         ^
+#[tactic(auto, unfolding(crate::specs::TextMachine::declarationOpenOf))]
 pub(crate) fn declaration_open(size: u8, b: u8) -> State
     ensures { result ≡ declarationOpenOf size b }
 {
@@ -89,6 +92,7 @@ pub(crate) fn declaration_open(size: u8, b: u8) -> State
 //
 //     a <!--b--> c
 //          ^
+#[tactic(auto, unfolding(crate::specs::TextMachine::commentOpenInsideOf))]
 pub(crate) fn comment_open_inside(size: u8, b: u8) -> State
     ensures { result ≡ commentOpenInsideOf size b }
 {
@@ -102,6 +106,7 @@ pub(crate) fn comment_open_inside(size: u8, b: u8) -> State
 //
 //     a <!--b--> c
 //           ^
+#[tactic(auto, unfolding(crate::specs::TextMachine::commentOf))]
 pub(crate) fn comment(size: u8, b: u8) -> State
     ensures { result ≡ commentOf size b }
 {
@@ -117,6 +122,7 @@ pub(crate) fn comment(size: u8, b: u8) -> State
 //
 //     a <!--b--> c
 //             ^
+#[tactic(auto, unfolding(crate::specs::TextMachine::commentCloseOf))]
 pub(crate) fn comment_close(size: u8, b: u8) -> State
     ensures { result ≡ commentCloseOf size b }
 {
@@ -130,6 +136,7 @@ pub(crate) fn comment_close(size: u8, b: u8) -> State
 //
 //     a <!--b--> c
 //              ^
+#[tactic(auto, unfolding(crate::specs::TextMachine::commentEndOf))]
 pub(crate) fn comment_end(size: u8, b: u8) -> State
     ensures { result ≡ commentEndOf size b }
 {
@@ -144,6 +151,7 @@ pub(crate) fn comment_end(size: u8, b: u8) -> State
 //
 //     a <![CDATA[>&<]]> b
 //          ^^^^^^
+#[tactic(auto, unfolding(crate::specs::TextMachine::cdataOpenInsideOf))]
 pub(crate) fn cdata_open_inside(size: u8, b: u8) -> State
     ensures { result ≡ cdataOpenInsideOf size b }
 {
@@ -164,6 +172,7 @@ pub(crate) fn cdata_open_inside(size: u8, b: u8) -> State
 //
 //     a <![CDATA[>&<]]> b
 //                ^
+#[tactic(auto, unfolding(crate::specs::TextMachine::cdataOf))]
 pub(crate) fn cdata(size: u8, b: u8) -> State
     ensures { result ≡ cdataOf size b }
 {
@@ -179,6 +188,7 @@ pub(crate) fn cdata(size: u8, b: u8) -> State
 //
 //     a <![CDATA[>&<]]> b
 //                    ^
+#[tactic(auto, unfolding(crate::specs::TextMachine::cdataCloseOf))]
 pub(crate) fn cdata_close(size: u8, b: u8) -> State
     ensures { result ≡ cdataCloseOf size b }
 {
@@ -192,6 +202,7 @@ pub(crate) fn cdata_close(size: u8, b: u8) -> State
 //
 //     a <![CDATA[>&<]]> b
 //                     ^
+#[tactic(auto, unfolding(crate::specs::TextMachine::cdataEndOf))]
 pub(crate) fn cdata_end(size: u8, b: u8) -> State
     ensures { result ≡ cdataEndOf size b }
 {
@@ -206,6 +217,7 @@ pub(crate) fn cdata_end(size: u8, b: u8) -> State
 //
 //     a <!b> c
 //         ^
+#[tactic(auto, unfolding(crate::specs::TextMachine::declarationOf))]
 pub(crate) fn declaration(size: u8, b: u8) -> State
     ensures { result ≡ declarationOf size b }
 {
@@ -221,6 +233,7 @@ pub(crate) fn declaration(size: u8, b: u8) -> State
 //
 //     a <?b?> c
 //         ^
+#[tactic(auto, unfolding(crate::specs::TextMachine::instructionOf))]
 pub(crate) fn instruction(size: u8, b: u8) -> State
     ensures { result ≡ instructionOf size b }
 {
@@ -236,6 +249,7 @@ pub(crate) fn instruction(size: u8, b: u8) -> State
 //
 //     a <?b?> c
 //           ^
+#[tactic(auto, unfolding(crate::specs::TextMachine::instructionCloseOf))]
 pub(crate) fn instruction_close(size: u8, b: u8) -> State
     ensures { result ≡ instructionCloseOf size b }
 {
@@ -249,6 +263,7 @@ pub(crate) fn instruction_close(size: u8, b: u8) -> State
 //
 //     a </b> c
 //         ^
+#[tactic(auto, unfolding(crate::specs::TextMachine::tagCloseStartOf))]
 pub(crate) fn tag_close_start(size: u8, b: u8) -> State
     ensures { result ≡ tagCloseStartOf size b }
 {
@@ -263,6 +278,7 @@ pub(crate) fn tag_close_start(size: u8, b: u8) -> State
 //
 //     a </b> c
 //          ^
+#[tactic(auto, unfolding(crate::specs::TextMachine::tagCloseOf))]
 pub(crate) fn tag_close(size: u8, b: u8) -> State
     ensures { result ≡ tagCloseOf size b }
 {
@@ -277,6 +293,7 @@ pub(crate) fn tag_close(size: u8, b: u8) -> State
 //
 //     a </b> c
 //          ^
+#[tactic(auto, unfolding(crate::specs::TextMachine::tagCloseBetweenOf))]
 pub(crate) fn tag_close_between(size: u8, b: u8) -> State
     ensures { result ≡ tagCloseBetweenOf size b }
 {
@@ -293,6 +310,7 @@ pub(crate) fn tag_close_between(size: u8, b: u8) -> State
 //
 //     a <b> c
 //         ^
+#[tactic(auto, unfolding(crate::specs::TextMachine::tagOpenOf))]
 pub(crate) fn tag_open(size: u8, b: u8) -> State
     ensures { result ≡ tagOpenOf size b }
 {
@@ -309,6 +327,7 @@ pub(crate) fn tag_open(size: u8, b: u8) -> State
 //
 //     a <b> c
 //         ^
+#[tactic(auto, unfolding(crate::specs::TextMachine::tagOpenBetweenOf))]
 pub(crate) fn tag_open_between(size: u8, b: u8) -> State
     ensures { result ≡ tagOpenBetweenOf size b }
 {
@@ -329,6 +348,7 @@ pub(crate) fn tag_open_between(size: u8, b: u8) -> State
 //
 //     a <b c> d
 //          ^
+#[tactic(auto, unfolding(crate::specs::TextMachine::attributeNameOf))]
 pub(crate) fn tag_open_attribute_name(size: u8, b: u8) -> State
     ensures { result ≡ attributeNameOf size b }
 {
@@ -343,6 +363,7 @@ pub(crate) fn tag_open_attribute_name(size: u8, b: u8) -> State
 //
 //     a <b c> d
 //           ^
+#[tactic(auto, unfolding(crate::specs::TextMachine::attributeNameAfterOf))]
 pub(crate) fn tag_open_attribute_name_after(size: u8, b: u8) -> State
     ensures { result ≡ attributeNameAfterOf size b }
 {
@@ -361,6 +382,7 @@ pub(crate) fn tag_open_attribute_name_after(size: u8, b: u8) -> State
 //
 //     a <b c=d> e
 //            ^
+#[tactic(auto, unfolding(crate::specs::TextMachine::valueBeforeOf))]
 pub(crate) fn tag_open_attribute_value_before(size: u8, b: u8) -> State
     ensures { result ≡ valueBeforeOf size b }
 {
@@ -381,6 +403,7 @@ pub(crate) fn tag_open_attribute_value_before(size: u8, b: u8) -> State
 //
 //     a <b c="d"> e
 //             ^
+#[tactic(auto, unfolding(crate::specs::TextMachine::valueQuotedOf))]
 pub(crate) fn tag_open_attribute_value_quoted(marker: u8, size: u8, b: u8) -> State
     ensures { result ≡ valueQuotedOf marker size b }
 {
@@ -397,6 +420,7 @@ pub(crate) fn tag_open_attribute_value_quoted(marker: u8, size: u8, b: u8) -> St
 //
 //     a <b c=d> e
 //            ^
+#[tactic(auto, unfolding(crate::specs::TextMachine::valueUnquotedOf))]
 pub(crate) fn tag_open_attribute_value_unquoted(rules: Rules, size: u8, b: u8) -> State
     ensures { result ≡ valueUnquotedOf rules size b }
 {
@@ -411,6 +435,7 @@ pub(crate) fn tag_open_attribute_value_unquoted(rules: Rules, size: u8, b: u8) -
 //
 //     a <b c="d"> e
 //               ^
+#[tactic(auto, unfolding(crate::specs::TextMachine::valueQuotedAfterOf))]
 pub(crate) fn tag_open_attribute_value_quoted_after(size: u8, b: u8) -> State
     ensures { result ≡ valueQuotedAfterOf size b }
 {
@@ -425,6 +450,7 @@ pub(crate) fn tag_open_attribute_value_quoted_after(size: u8, b: u8) -> State
 //
 //     a <b> c
 //         ^
+#[tactic(auto, unfolding(crate::specs::TextMachine::endOf))]
 pub(crate) fn end(b: u8) -> State
     ensures { result ≡ endOf b }
 {

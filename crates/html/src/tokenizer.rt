@@ -56,6 +56,7 @@ pub enum Inline {
 }
 
 // The state's function on the byte.
+#[tactic(auto, unfolding(crate::specs::TextMachine::stepOf))]
 pub fn step(rules: Rules, state: StateName, size: u8, b: u8) -> State
     ensures { result ≡ stepOf rules state size b }
 {
@@ -96,6 +97,7 @@ pub fn step(rules: Rules, state: StateName, size: u8, b: u8) -> State
 }
 
 // The byte that ends the body of a state: another one, but a line ending, leaves the state as it is. A state without a body: 0.
+#[tactic(auto, unfolding(crate::specs::TextMachine::bodyMark))]
 fn body_mark(state: StateName) -> u8
     ensures { result ≡ bodyMark state }
 {

@@ -5,10 +5,10 @@ use borrow.Author.Rules.{rules}
 use Rattle.html.proofs.scan.keep.Goals as goal
 
 pub returns-in-Found : goal.returns-in-Found
-returns-in-Found c = let a = c.args in let g = c.in-Found.is in rw g.1 (ap (foundInline g.0.0) c.??by-t2.ensures ∙ pick-out (foundInline g.0.0) a.rules.t2 g.0.1.0 a.carry)
+returns-in-Found c = let a = c.args in rw c.in-Found.is (ap (foundInline c.in-Found.stop) c.by_t2.ensures ∙ pick-out (foundInline c.in-Found.stop) a.rules.t2 c.in-Found.left a.carry)
 
 pub returns-in-Missing : goal.returns-in-Missing
-returns-in-Missing c = let a = c.args in let g = c.in-Missing.is in rw g.1 (ap noInline c.??by-t22.ensures ∙ pick-out noInline a.rules.t2 g.0.0 a.carry)
+returns-in-Missing c = let a = c.args in rw c.in-Missing.is (ap noInline c.by_t2-in-Missing.ensures ∙ pick-out noInline a.rules.t2 c.in-Missing.left a.carry)
 
 pub returns-in-Refused : goal.returns-in-Refused
-returns-in-Refused c = let a = c.args in let g = c.in-Refused.is in rw g.1 (ap (refusedInline g.0.0) c.??by-t23.ensures ∙ pick-out (refusedInline g.0.0) a.rules.t2 g.0.1.0 a.carry)
+returns-in-Refused c = let a = c.args in rw c.in-Refused.is (ap (refusedInline c.in-Refused.refusal) c.by_t2-in-Refused.ensures ∙ pick-out (refusedInline c.in-Refused.refusal) a.rules.t2 c.in-Refused.left a.carry)

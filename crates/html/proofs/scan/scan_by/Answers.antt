@@ -31,6 +31,6 @@ returns c = let a = c.args in
     let e = c.inline_refusal-refusal.ensures in
     let z = c.if-refusal-ne0.false in
     c.keep.ensures
-    ∙ either-carry a.rules a.text.now a.index a.carry _ _ c.run.ensures c.??by-t2.ensures
+    ∙ either-carry a.rules a.text.now a.index a.carry _ _ c.run.ensures c.by_t2-size.ensures
     (small a.rules a.text.now a.index a.carry _ e z)
     ∙ sym (answers a.rules a.text.now a.index a.carry _ e z)
