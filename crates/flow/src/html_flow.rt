@@ -40,6 +40,7 @@ use rules::Rules;
 //
 //     </x/>
 //        ^
+#[tactic(auto, unfolding(crate::specs::CompleteMachine::closingTagAfterOf))]
 pub(crate) fn complete_closing_tag_after(b: u8) -> State
     ensures { result ≡ closingTagAfterOf b }
 {
@@ -54,6 +55,7 @@ pub(crate) fn complete_closing_tag_after(b: u8) -> State
 //
 //     <a :b>
 //        ^
+#[tactic(auto, unfolding(crate::specs::CompleteMachine::nameBeforeOf))]
 pub(crate) fn complete_attribute_name_before(rules: Rules, b: u8) -> State
     ensures { result ≡ nameBeforeOf rules b }
 {
@@ -72,6 +74,7 @@ pub(crate) fn complete_attribute_name_before(rules: Rules, b: u8) -> State
 //
 //     <a :b>
 //         ^
+#[tactic(auto, unfolding(crate::specs::CompleteMachine::nameOf))]
 pub(crate) fn complete_attribute_name(rules: Rules, b: u8) -> State
     ensures { result ≡ nameOf rules b }
 {
@@ -86,6 +89,7 @@ pub(crate) fn complete_attribute_name(rules: Rules, b: u8) -> State
 //
 //     <a b = c>
 //         ^
+#[tactic(auto, unfolding(crate::specs::CompleteMachine::nameAfterOf))]
 pub(crate) fn complete_attribute_name_after(rules: Rules, b: u8) -> State
     ensures { result ≡ nameAfterOf rules b }
 {
@@ -102,6 +106,7 @@ pub(crate) fn complete_attribute_name_after(rules: Rules, b: u8) -> State
 //
 //     <a b=c>
 //          ^
+#[tactic(auto, unfolding(crate::specs::CompleteMachine::valueBeforeOf))]
 pub(crate) fn complete_attribute_value_before(rules: Rules, b: u8) -> State
     ensures { result ≡ valueBeforeOf rules b }
 {
@@ -120,6 +125,7 @@ pub(crate) fn complete_attribute_value_before(rules: Rules, b: u8) -> State
 //
 //     <a b="c">
 //           ^
+#[tactic(auto, unfolding(crate::specs::CompleteMachine::valueQuotedOf))]
 pub(crate) fn complete_attribute_value_quoted(marker: u8, b: u8) -> State
     ensures { result ≡ valueQuotedOf marker b }
 {
@@ -134,6 +140,7 @@ pub(crate) fn complete_attribute_value_quoted(marker: u8, b: u8) -> State
 //
 //     <a b=c>
 //          ^
+#[tactic(auto, unfolding(crate::specs::CompleteMachine::valueUnquotedOf))]
 pub(crate) fn complete_attribute_value_unquoted(rules: Rules, b: u8) -> State
     ensures { result ≡ valueUnquotedOf rules b }
 {
@@ -152,6 +159,7 @@ pub(crate) fn complete_attribute_value_unquoted(rules: Rules, b: u8) -> State
 //
 //     <a b="c">
 //             ^
+#[tactic(auto, unfolding(crate::specs::CompleteMachine::valueQuotedAfterOf))]
 pub(crate) fn complete_attribute_value_quoted_after(rules: Rules, b: u8) -> State
     ensures { result ≡ valueQuotedAfterOf rules b }
 {
@@ -166,6 +174,7 @@ pub(crate) fn complete_attribute_value_quoted_after(rules: Rules, b: u8) -> Stat
 //
 //     <a b="c">
 //             ^
+#[tactic(auto, unfolding(crate::specs::CompleteMachine::endOf))]
 pub(crate) fn complete_end(b: u8) -> State
     ensures { result ≡ endOf b }
 {
@@ -179,6 +188,7 @@ pub(crate) fn complete_end(b: u8) -> State
 //
 //     <x>
 //        ^
+#[tactic(auto, unfolding(crate::specs::CompleteMachine::afterOf))]
 pub(crate) fn complete_after(b: u8) -> State
     ensures { result ≡ afterOf b }
 {
@@ -239,6 +249,7 @@ pub enum ContinuationName {
 //
 //     <!--xxx-->
 //         ^
+#[tactic(auto, unfolding(crate::specs::ContinuationMachine::continuationOf))]
 fn continuation(kind: Kind, b: u8) -> ContinuationName
     ensures { result ≡ continuationOf kind b }
 {
@@ -273,6 +284,7 @@ fn continuation(kind: Kind, b: u8) -> ContinuationName
 //
 //     <!--xxx-->
 //             ^
+#[tactic(auto, unfolding(crate::specs::ContinuationMachine::commentInsideOf))]
 fn continuation_comment_inside(kind: Kind, b: u8) -> ContinuationName
     ensures { result ≡ commentInsideOf kind b }
 {
@@ -287,6 +299,7 @@ fn continuation_comment_inside(kind: Kind, b: u8) -> ContinuationName
 //
 //     <![CDATA[>&<]]>
 //                  ^
+#[tactic(auto, unfolding(crate::specs::ContinuationMachine::cdataInsideOf))]
 fn continuation_cdata_inside(kind: Kind, b: u8) -> ContinuationName
     ensures { result ≡ cdataInsideOf kind b }
 {
@@ -320,6 +333,7 @@ fn stays_before_end(rules: Rules, kind: Kind, b: u8) -> bool
 //           ^
 //     <![CDATA[>&<]]>
 //                   ^
+#[tactic(auto, unfolding(crate::specs::ContinuationMachine::declarationInsideOf))]
 fn continuation_declaration_inside(rules: Rules, kind: Kind, b: u8) -> ContinuationName
     ensures { result ≡ declarationInsideOf rules kind b }
 {

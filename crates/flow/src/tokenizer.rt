@@ -29,6 +29,7 @@ pub enum State {
 }
 
 // The state's function on the byte.
+#[tactic(auto, unfolding(crate::specs::CompleteMachine::stepOf))]
 fn step(rules: Rules, state: StateName, b: u8) -> State
     ensures { result ≡ stepOf rules state b }
 {

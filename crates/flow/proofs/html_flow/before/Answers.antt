@@ -11,4 +11,4 @@ pub returns-then-line-at-ne60 : goal.returns-then-line-at-ne60
 returns-then-line-at-ne60 c = let a = c.args in record { result_value = sym (before-other a.line.now a.at a.rules a.flag c.if-at-line.false c.if-line-at-ne60.true); names = refl }
 
 pub returns : goal.returns
-returns c = let a = c.args in record { result_value = c.??open.ensures.0 ∙ sym (before-in a.line.now a.at a.rules a.flag c.if-at-line.false c.if-line-at-ne60.false); names = renamed c.??open.result _ _ (ap tagName (sym (marked a.line.now a.at c.if-at-line.false c.if-line-at-ne60.false))) c.??open.ensures.1 }
+returns c = let a = c.args in record { result_value = c.«open».ensures.result_value ∙ sym (before-in a.line.now a.at a.rules a.flag c.if-at-line.false c.if-line-at-ne60.false); names = renamed c.«open».result _ _ (ap tagName (sym (marked a.line.now a.at c.if-at-line.false c.if-line-at-ne60.false))) c.«open».ensures.names }

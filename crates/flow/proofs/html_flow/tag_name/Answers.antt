@@ -2,7 +2,7 @@
 use mathlib.Core.Path.{refl, sym, ◌∙◌, ap}
 use Prim.Native.Nat.{ℕ}
 use lib.Dec.{eqb}
-use borrow.Author.Tests.{ne_eqb}
+use borrow.Author.Tests.{eq-eqb, ne_eqb}
 use Rattle.lexical.specs.Name.{blockPlace, rawPlace}
 use Rattle.lexical.proofs.Names.{block-place-is, raw-place-is}
 use Rattle.rules.proofs.NameLaws.{name-cut}
@@ -35,11 +35,8 @@ returns-then-slash c = let a = c.args in
     let name = c.from_indices-name.ensures ∙ name-cut line a.at end ends in
     let place = c.raw_place-raw.ensures ∙ ap rawPlace name in
     let slash = ap (λ (x : ℕ). eqb x 47) (sym c.peek-slash.ensures) in
-    let basic = c.block_place-basic.ensures ∙ ap blockPlace name in (
-      c.basic_self_closing.ensures.result_value
-          ∙ sym (block-name line a.at end ends a.rules a.flag a.closing _ _ (sym c.is_name_break.ensures ∙ c.if-not-is_name_break.false) (raw-place-is _ _ place) slash c.if-is_raw-closing.false (block-place-is _ _ basic ∙ rw (ne_eqb _ _ c.if-basic.true)) ∙ rw c.if-slash.true),
-      c.basic_self_closing.ensures.names_basic _ basic,
-    )
+    let basic = c.block_place-basic.ensures ∙ ap blockPlace name in record { result_value = c.basic_self_closing.ensures.result_value
+          ∙ sym (block-name line a.at end ends a.rules a.flag a.closing _ _ (sym c.is_name_break.ensures ∙ c.if-not-is_name_break.false) (raw-place-is _ _ place) slash c.if-is_raw-closing.false (block-place-is _ _ basic ∙ rw (ne_eqb _ _ c.if-basic.true)) ∙ rw (eq-eqb _ _ c.if-slash.true)); names = c.basic_self_closing.ensures.names_basic _ basic }
 
 pub returns-then-basic : goal.returns-then-basic
 returns-then-basic c = let a = c.args in
@@ -50,7 +47,7 @@ returns-then-basic c = let a = c.args in
     let place = c.raw_place-raw.ensures ∙ ap rawPlace name in
     let slash = ap (λ (x : ℕ). eqb x 47) (sym c.peek-slash.ensures) in
     let basic = c.block_place-basic.ensures ∙ ap blockPlace name in
-    record { result_value = sym (block-name line a.at end ends a.rules a.flag a.closing _ _ (sym c.is_name_break.ensures ∙ c.if-not-is_name_break.false) (raw-place-is _ _ place) slash c.if-is_raw-closing.false (block-place-is _ _ basic ∙ rw (ne_eqb _ _ c.if-basic.true)) ∙ rw c.if-slash.false); names = basic }
+    record { result_value = sym (block-name line a.at end ends a.rules a.flag a.closing _ _ (sym c.is_name_break.ensures ∙ c.if-not-is_name_break.false) (raw-place-is _ _ place) slash c.if-is_raw-closing.false (block-place-is _ _ basic ∙ rw (ne_eqb _ _ c.if-basic.true)) ∙ rw (ne_eqb _ _ c.if-slash.false)); names = basic }
 
 pub returns : goal.returns
 returns c = let a = c.args in
@@ -60,8 +57,5 @@ returns c = let a = c.args in
     let name = c.from_indices-name.ensures ∙ name-cut line a.at end ends in
     let place = c.raw_place-raw.ensures ∙ ap rawPlace name in
     let slash = ap (λ (x : ℕ). eqb x 47) (sym c.peek-slash.ensures) in
-    let basic = c.block_place-basic.ensures ∙ ap blockPlace name in (
-      c.complete.ensures.result_value
-          ∙ sym (other-name line a.at end ends a.rules a.flag a.closing _ _ (sym c.is_name_break.ensures ∙ c.if-not-is_name_break.false) (raw-place-is _ _ place) slash c.if-is_raw-closing.false (block-place-is _ _ basic ∙ rw c.if-basic.false)),
-      c.complete.ensures.unnamed _,
-    )
+    let basic = c.block_place-basic.ensures ∙ ap blockPlace name in record { result_value = c.complete.ensures.result_value
+          ∙ sym (other-name line a.at end ends a.rules a.flag a.closing _ _ (sym c.is_name_break.ensures ∙ c.if-not-is_name_break.false) (raw-place-is _ _ place) slash c.if-is_raw-closing.false (block-place-is _ _ basic ∙ rw c.if-basic.false)); names = c.complete.ensures.unnamed _ }

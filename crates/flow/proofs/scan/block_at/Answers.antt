@@ -54,7 +54,7 @@ returns-then-at-content c = let a = c.args in
     let begun = c.start.ensures in
     c.continuation_after.ensures
     ∙ sym (first-closes a.rules a.bulletin.now a.flags.now a.index a.line _ _ _ c.line_end-stop.ensures c.from_indices-content.ensures c.flag_at.ensures
-    (kindNumber opens.0.0) opens.0.1.0 (sym begun.0 ∙ ap openingNumber opens.1) (named _ _ _ _ opens.1 begun.1) (has-number opens.0.0) _ c.before_closer-at.ensures c.if-at-content.true)
+    (kindNumber c.in-Opens.kind) c.in-Opens.name (sym begun.result_value ∙ ap openingNumber opens) (named _ _ _ _ opens begun.names) (has-number c.in-Opens.kind) _ c.before_closer-at.ensures c.if-at-content.true)
 
 pub returns-in-Shut : goal.returns-in-Shut
 returns-in-Shut c = let a = c.args in
@@ -67,4 +67,4 @@ returns-else-at-content c = let a = c.args in
     let begun = c.start.ensures in
     c.continuation_start.ensures
     ∙ sym (first-on a.rules a.bulletin.now a.flags.now a.index a.line _ _ _ c.line_end-stop.ensures c.from_indices-content.ensures c.flag_at.ensures
-    (kindNumber opens.0.0) opens.0.1.0 (sym begun.0 ∙ ap openingNumber opens.1) (named _ _ _ _ opens.1 begun.1) (has-number opens.0.0) _ c.before_closer-at.ensures c.if-at-content.false _ (next-flags a.flags.now _ _ c.next_number.ensures))
+    (kindNumber c.in-Opens.kind) c.in-Opens.name (sym begun.result_value ∙ ap openingNumber opens) (named _ _ _ _ opens begun.names) (has-number c.in-Opens.kind) _ c.before_closer-at.ensures c.if-at-content.false _ (next-flags a.flags.now _ _ c.next_number.ensures))

@@ -45,8 +45,8 @@ returns-then-flags-count_lines c = let a = c.args in
 
 pub returns-then-not-are_flags : goal.returns-then-not-are_flags
 returns-then-not-are_flags c = let a = c.args in
-    sym (refuses-flag a.bulletin.now a.flags.now (sym c.is_over_limit.ensures ∙ c.if-is_over_limit.false) _ c.count_lines.ensures c.if-flags-count_lines.false (ap not (sym c.are_flags.ensures) ∙ c.if-not-are_flags.true))
+    sym (refuses-flag a.bulletin.now a.flags.now (sym c.is_over_limit.ensures ∙ c.if-is_over_limit.false) _ c.count_lines.ensures c.if-flags-count_lines.false (ap not (sym c.are_flags.ensures ∙ c.if-not-are_flags.true)))
 
 pub returns : goal.returns
 returns c = let a = c.args in
-    sym (refuses-nothing a.bulletin.now a.flags.now (sym c.is_over_limit.ensures ∙ c.if-is_over_limit.false) _ c.count_lines.ensures c.if-flags-count_lines.false (ap not (sym c.are_flags.ensures) ∙ c.if-not-are_flags.false))
+    sym (refuses-nothing a.bulletin.now a.flags.now (sym c.is_over_limit.ensures ∙ c.if-is_over_limit.false) _ c.count_lines.ensures c.if-flags-count_lines.false (ap not (sym c.are_flags.ensures ∙ c.if-not-are_flags.false)))

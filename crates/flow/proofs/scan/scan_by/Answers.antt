@@ -66,7 +66,7 @@ returns-then-refusal-ne0 c = let a = c.args in
 
 pub returns-then-not-is_line_start : goal.returns-then-not-is_line_start
 returns-then-not-is_line_start c = let a = c.args in
-    sym (refuses-index a.rules a.bulletin.now a.flags.now a.index _ c.bulletin_refusal-refusal.ensures c.if-refusal-ne0.false (ap not (sym c.is_line_start.ensures) ∙ c.if-not-is_line_start.true))
+    sym (refuses-index a.rules a.bulletin.now a.flags.now a.index _ c.bulletin_refusal-refusal.ensures c.if-refusal-ne0.false (ap not (sym c.is_line_start.ensures ∙ c.if-not-is_line_start.true)))
 
 pub overflow_sub-line : goal.overflow_sub-line
 overflow_sub-line c = some-line _ _ c.count_lines-line.ensures
@@ -75,4 +75,4 @@ pub returns : goal.returns
 returns c = let a = c.args in
     c.block_at.ensures
     ∙ numbered a.rules a.bulletin.now a.flags.now a.index _ (number-is a.rules a.bulletin.now a.flags.now a.index _ _ c.from_indices.ensures c.count_lines-line.ensures)
-    ∙ sym (refuses-nothing a.rules a.bulletin.now a.flags.now a.index _ c.bulletin_refusal-refusal.ensures c.if-refusal-ne0.false (ap not (sym c.is_line_start.ensures) ∙ c.if-not-is_line_start.false))
+    ∙ sym (refuses-nothing a.rules a.bulletin.now a.flags.now a.index _ c.bulletin_refusal-refusal.ensures c.if-refusal-ne0.false (ap not (sym c.is_line_start.ensures ∙ c.if-not-is_line_start.false)))
