@@ -542,7 +542,7 @@ fn may_start(rules: Rules, flag: u8) -> bool
 
 // After a tag's name that is neither raw nor a block name: a complete tag that fills the line. F3: raw names before a direct `/` too.
 fn complete(rules: Rules, line: &[u8], at: usize, closing: bool, raw: bool, flag: u8) -> Opening
-    ensures result_value { openingNumber result ≡ completeOf rules flag closing raw (drop at line.now) }
+    ensures kind { openingNumber result ≡ completeOf rules flag closing raw (drop at line.now) }
     ensures unnamed { Unnamed result }
 {
     if !may_start(rules, flag) {
@@ -578,7 +578,7 @@ fn complete(rules: Rules, line: &[u8], at: usize, closing: bool, raw: bool, flag
 //     <div/>
 //          ^
 fn basic_self_closing(line: &[u8], at: usize, name: u8) -> Opening
-    ensures result_value { openingNumber result ≡ selfClosingOf (drop at line.now) }
+    ensures kind { openingNumber result ≡ selfClosingOf (drop at line.now) }
     ensures names_basic { NamesBasic result name }
 {
     if at >= line.len() {
@@ -601,7 +601,7 @@ fn basic_self_closing(line: &[u8], at: usize, name: u8) -> Opening
 //     <ab>
 //      ^^
 fn tag_name(rules: Rules, line: &[u8], at: usize, closing: bool, flag: u8) -> Opening
-    ensures result_value { openingNumber result ≡ tagNameOf rules flag closing (tagNameIn (drop at line.now)) (afterName (drop at line.now)) }
+    ensures kind { openingNumber result ≡ tagNameOf rules flag closing (tagNameIn (drop at line.now)) (afterName (drop at line.now)) }
     ensures names { Names result (tagNameIn (drop at line.now)) }
 {
     let end = name_end(line, at);
@@ -636,7 +636,7 @@ fn tag_name(rules: Rules, line: &[u8], at: usize, closing: bool, flag: u8) -> Op
 //     </x>
 //       ^
 fn tag_close_start(rules: Rules, line: &[u8], at: usize, flag: u8) -> Opening
-    ensures result_value { openingNumber result ≡ tagCloseStartOf rules flag (drop at line.now) }
+    ensures kind { openingNumber result ≡ tagCloseStartOf rules flag (drop at line.now) }
     ensures names { Names result (tagNameIn (drop at line.now)) }
 {
     if at >= line.len() {
@@ -663,7 +663,7 @@ fn cdata_open_inside(line: &[u8], at: usize) -> bool
 //     <!--xxx-->
 //        ^
 fn comment_open_inside(line: &[u8], at: usize) -> Opening
-    ensures result_value { openingNumber result ≡ commentOpenOf (drop at line.now) }
+    ensures kind { openingNumber result ≡ commentOpenOf (drop at line.now) }
     ensures unnamed { Unnamed result }
 {
     if peek(line, at) == 45 {
@@ -680,7 +680,7 @@ fn comment_open_inside(line: &[u8], at: usize) -> Opening
 //     <!doctype>
 //       ^
 fn declaration_open(line: &[u8], at: usize) -> Opening
-    ensures result_value { openingNumber result ≡ declarationOpenOf (drop at line.now) }
+    ensures kind { openingNumber result ≡ declarationOpenOf (drop at line.now) }
     ensures unnamed { Unnamed result }
 {
     if at >= line.len() {
@@ -716,7 +716,7 @@ fn declaration_open(line: &[u8], at: usize) -> Opening
 //     <!--xxx-->
 //      ^
 fn open(rules: Rules, line: &[u8], at: usize, flag: u8) -> Opening
-    ensures result_value { openingNumber result ≡ openOf rules flag (drop at line.now) }
+    ensures kind { openingNumber result ≡ openOf rules flag (drop at line.now) }
     ensures names { Names result (tagName (byte "<" ∷ drop at line.now)) }
 {
     if at >= line.len() {
@@ -746,7 +746,7 @@ fn open(rules: Rules, line: &[u8], at: usize, flag: u8) -> Opening
 //       <x>
 //       ^
 fn before(rules: Rules, line: &[u8], at: usize, flag: u8) -> Opening
-    ensures result_value { openingNumber result ≡ kindAt rules flag (drop at line.now) }
+    ensures kind { openingNumber result ≡ kindAt rules flag (drop at line.now) }
     ensures names { Names result (tagName (drop at line.now)) }
 {
     if at >= line.len() {
@@ -763,8 +763,8 @@ fn before(rules: Rules, line: &[u8], at: usize, flag: u8) -> Opening
 //       <x>
 //     ^
 pub(crate) fn start(rules: Rules, line: &[u8], flag: u8) -> Opening
-    ensures result_value { openingNumber result ≡ kindOf rules (lineOf flag [] line.now) }
-    ensures result_value_2 { openingName result ≡ placeOf (openingNumber result) (lineOf flag [] line.now) }
+    ensures kind { openingNumber result ≡ kindOf rules (lineOf flag [] line.now) }
+    ensures name { openingName result ≡ placeOf (openingNumber result) (lineOf flag [] line.now) }
 {
     let indent = inside(line, 0);
     if indent > 3 {

@@ -92,8 +92,8 @@ pub extern "C" fn foringamo_block_trace(
     index: usize,
     out: &mut [u8],
 ) -> WrittenResult
-    ensures value { result ≡ writtenResult (blockTraced bulletin.now flags.now index (length out.old)) }
-    ensures out_after { out.new ≡ blockBuffer bulletin.now flags.now index out.old }
+    ensures answer { result ≡ writtenResult (blockTraced bulletin.now flags.now index (length out.old)) }
+    ensures buffer { out.new ≡ blockBuffer bulletin.now flags.now index out.old }
 {
     written_result(block_trace(bulletin, flags, index, out))
 }

@@ -11,8 +11,8 @@ use tagfilter::filter::filter;
 // Shows a bulletin with its raw HTML, the `<` of GitHub's nine tags as `&lt;`.
 #[unsafe(no_mangle)]
 pub extern "C" fn foringamo_filter(bulletin: &[u8], flags: &[u8], out: &mut [u8]) -> WrittenResult
-    ensures value { result ≡ writtenResult (filterOf ofCrate bulletin.now flags.now (length out.old)) }
-    ensures out_after { out.new ≡ written (filterRefusal ofCrate bulletin.now flags.now (length out.old)) (filtered ofCrate bulletin.now flags.now) out.old }
+    ensures answer { result ≡ writtenResult (filterOf ofCrate bulletin.now flags.now (length out.old)) }
+    ensures buffer { out.new ≡ written (filterRefusal ofCrate bulletin.now flags.now (length out.old)) (filtered ofCrate bulletin.now flags.now) out.old }
 {
     written_result(filter(bulletin, flags, out))
 }

@@ -77,8 +77,8 @@ pub extern "C" fn foringamo_inline_trace(
     carry: u8,
     out: &mut [u8],
 ) -> WrittenResult
-    ensures value { result ≡ writtenResult (inlineTraced text.now index carry (length out.old)) }
-    ensures out_after { out.new ≡ inlineBuffer text.now index carry out.old }
+    ensures answer { result ≡ writtenResult (inlineTraced text.now index carry (length out.old)) }
+    ensures buffer { out.new ≡ inlineBuffer text.now index carry out.old }
 {
     written_result(inline_trace(text, index, carry, out))
 }

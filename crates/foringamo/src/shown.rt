@@ -40,8 +40,8 @@ fn shown_result(answer: Withheld) -> ShownResult
 // Shows a bulletin without its raw HTML.
 #[unsafe(no_mangle)]
 pub extern "C" fn foringamo_withhold(bulletin: &[u8], flags: &[u8], out: &mut [u8]) -> ShownResult
-    ensures value { result ≡ shownResult (withholdOf ofCrate bulletin.now flags.now (length out.old)) }
-    ensures out_after { out.new ≡ written (withholdRefusal ofCrate bulletin.now flags.now (length out.old)) (shown ofCrate bulletin.now flags.now) out.old }
+    ensures answer { result ≡ shownResult (withholdOf ofCrate bulletin.now flags.now (length out.old)) }
+    ensures buffer { out.new ≡ written (withholdRefusal ofCrate bulletin.now flags.now (length out.old)) (shown ofCrate bulletin.now flags.now) out.old }
 {
     shown_result(withhold(bulletin, flags, out))
 }
@@ -53,8 +53,8 @@ pub extern "C" fn foringamo_standard_withhold(
     flags: &[u8],
     out: &mut [u8],
 ) -> ShownResult
-    ensures value { result ≡ shownResult (withholdOf standard bulletin.now flags.now (length out.old)) }
-    ensures out_after { out.new ≡ written (withholdRefusal standard bulletin.now flags.now (length out.old)) (shown standard bulletin.now flags.now) out.old }
+    ensures answer { result ≡ shownResult (withholdOf standard bulletin.now flags.now (length out.old)) }
+    ensures buffer { out.new ≡ written (withholdRefusal standard bulletin.now flags.now (length out.old)) (shown standard bulletin.now flags.now) out.old }
 {
     shown_result(standard_withhold(bulletin, flags, out))
 }

@@ -82,8 +82,8 @@ fn same_lower(name: &[u8], part: &[u8]) -> bool
 // The place of the name, in lower case, among those that the offsets cut from the table: the names of a whole list, or of a part of it whose first name has the
 // place that is passed in.
 fn place_of(name: &[u8], table: &[u8], offsets: &[u16], first: u8) -> u8
-    requires offsets_value { rising (length table.now) offsets.now ≡ true }
-    requires offsets_bound { first + length offsets.now ≤ unnamed }
+    requires rises { rising (length table.now) offsets.now ≡ true }
+    requires few { first + length offsets.now ≤ unnamed }
     ensures { result ≡ placeFrom first (map lower name.now) (cut table.now offsets.now) }
 {
     let mut k = 0;

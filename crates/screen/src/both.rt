@@ -24,10 +24,10 @@ fn both_by(
     first: &mut [u8],
     second: &mut [u8],
 ) -> Both
-    ensures one_value { shownOf result.one ≡ withholdOf rules one.now flags.now (length first.old) }
-    ensures two_value { shownOf result.two ≡ withholdOf rules two.now flags.now (length second.old) }
-    ensures first_after { first.new ≡ written (withholdRefusal rules one.now flags.now (length first.old)) (shown rules one.now flags.now) first.old }
-    ensures second_after { second.new ≡ written (withholdRefusal rules two.now flags.now (length second.old)) (shown rules two.now flags.now) second.old }
+    ensures one { shownOf result.one ≡ withholdOf rules one.now flags.now (length first.old) }
+    ensures two { shownOf result.two ≡ withholdOf rules two.now flags.now (length second.old) }
+    ensures first { first.new ≡ written (withholdRefusal rules one.now flags.now (length first.old)) (shown rules one.now flags.now) first.old }
+    ensures second { second.new ≡ written (withholdRefusal rules two.now flags.now (length second.old)) (shown rules two.now flags.now) second.old }
     ensures alike { Alike rules flags.now one.now two.now (shownOf result.one) (shownOf result.two) first.new second.new }
 {
     let a = withhold_by(rules, one, flags, first);
@@ -44,10 +44,10 @@ pub fn withhold_both(
     first: &mut [u8],
     second: &mut [u8],
 ) -> Both
-    ensures one_value { shownOf result.one ≡ withholdOf ofCrate one.now flags.now (length first.old) }
-    ensures two_value { shownOf result.two ≡ withholdOf ofCrate two.now flags.now (length second.old) }
-    ensures first_after { first.new ≡ written (withholdRefusal ofCrate one.now flags.now (length first.old)) (shown ofCrate one.now flags.now) first.old }
-    ensures second_after { second.new ≡ written (withholdRefusal ofCrate two.now flags.now (length second.old)) (shown ofCrate two.now flags.now) second.old }
+    ensures one { shownOf result.one ≡ withholdOf ofCrate one.now flags.now (length first.old) }
+    ensures two { shownOf result.two ≡ withholdOf ofCrate two.now flags.now (length second.old) }
+    ensures first { first.new ≡ written (withholdRefusal ofCrate one.now flags.now (length first.old)) (shown ofCrate one.now flags.now) first.old }
+    ensures second { second.new ≡ written (withholdRefusal ofCrate two.now flags.now (length second.old)) (shown ofCrate two.now flags.now) second.old }
     ensures alike { Alike ofCrate flags.now one.now two.now (shownOf result.one) (shownOf result.two) first.new second.new }
 {
     both_by(crate_rules(), one, two, flags, first, second)
@@ -61,10 +61,10 @@ pub fn standard_withhold_both(
     first: &mut [u8],
     second: &mut [u8],
 ) -> Both
-    ensures one_value { shownOf result.one ≡ withholdOf standard one.now flags.now (length first.old) }
-    ensures two_value { shownOf result.two ≡ withholdOf standard two.now flags.now (length second.old) }
-    ensures first_after { first.new ≡ written (withholdRefusal standard one.now flags.now (length first.old)) (shown standard one.now flags.now) first.old }
-    ensures second_after { second.new ≡ written (withholdRefusal standard two.now flags.now (length second.old)) (shown standard two.now flags.now) second.old }
+    ensures one { shownOf result.one ≡ withholdOf standard one.now flags.now (length first.old) }
+    ensures two { shownOf result.two ≡ withholdOf standard two.now flags.now (length second.old) }
+    ensures first { first.new ≡ written (withholdRefusal standard one.now flags.now (length first.old)) (shown standard one.now flags.now) first.old }
+    ensures second { second.new ≡ written (withholdRefusal standard two.now flags.now (length second.old)) (shown standard two.now flags.now) second.old }
     ensures alike { Alike standard flags.now one.now two.now (shownOf result.one) (shownOf result.two) first.new second.new }
 {
     both_by(standard_rules(), one, two, flags, first, second)

@@ -93,8 +93,8 @@ fn has_room(rules: Rules, bulletin: &[u8], flags: &[u8], room: usize) -> bool
 
 // Shows a bulletin without its raw HTML, in any reading.
 pub(crate) fn withhold_by(rules: Rules, bulletin: &[u8], flags: &[u8], out: &mut [u8]) -> Withheld
-    ensures result_value { shownOf result ≡ withholdOf rules bulletin.now flags.now (length out.old) }
-    ensures out_after { out.new ≡ written (withholdRefusal rules bulletin.now flags.now (length out.old)) (shown rules bulletin.now flags.now) out.old }
+    ensures answer { shownOf result ≡ withholdOf rules bulletin.now flags.now (length out.old) }
+    ensures buffer { out.new ≡ written (withholdRefusal rules bulletin.now flags.now (length out.old)) (shown rules bulletin.now flags.now) out.old }
 {
     let refusal = bulletin_refusal(bulletin, flags);
     if refusal != 0 {
@@ -108,16 +108,16 @@ pub(crate) fn withhold_by(rules: Rules, bulletin: &[u8], flags: &[u8], out: &mut
 
 // Shows a bulletin without its raw HTML, with all eight changes.
 pub fn withhold(bulletin: &[u8], flags: &[u8], out: &mut [u8]) -> Withheld
-    ensures result_value { shownOf result ≡ withholdOf ofCrate bulletin.now flags.now (length out.old) }
-    ensures out_after { out.new ≡ written (withholdRefusal ofCrate bulletin.now flags.now (length out.old)) (shown ofCrate bulletin.now flags.now) out.old }
+    ensures answer { shownOf result ≡ withholdOf ofCrate bulletin.now flags.now (length out.old) }
+    ensures buffer { out.new ≡ written (withholdRefusal ofCrate bulletin.now flags.now (length out.old)) (shown ofCrate bulletin.now flags.now) out.old }
 {
     withhold_by(crate_rules(), bulletin, flags, out)
 }
 
 // Shows a bulletin without its raw HTML by the standard, with none of the changes.
 pub fn standard_withhold(bulletin: &[u8], flags: &[u8], out: &mut [u8]) -> Withheld
-    ensures result_value { shownOf result ≡ withholdOf standard bulletin.now flags.now (length out.old) }
-    ensures out_after { out.new ≡ written (withholdRefusal standard bulletin.now flags.now (length out.old)) (shown standard bulletin.now flags.now) out.old }
+    ensures answer { shownOf result ≡ withholdOf standard bulletin.now flags.now (length out.old) }
+    ensures buffer { out.new ≡ written (withholdRefusal standard bulletin.now flags.now (length out.old)) (shown standard bulletin.now flags.now) out.old }
 {
     withhold_by(standard_rules(), bulletin, flags, out)
 }

@@ -28,8 +28,8 @@ fn counted_end(start: usize, stop: usize, block: bool) -> usize
 
 // How many bytes come in place of a piece.
 fn piece_length(bulletin: &[u8], start: usize, stop: usize, block: bool) -> usize
-    requires start_lt_stop { (start < stop) × (stop ≤ length bulletin.now) }
-    requires bulletin_len_bound { length bulletin.now ≤ limit }
+    requires within { (start < stop) × (stop ≤ length bulletin.now) }
+    requires short { length bulletin.now ≤ limit }
     ensures { result ≡ length (pieceBytes bulletin.now block start stop) }
 {
     let end = counted_end(start, stop, block);
@@ -45,8 +45,8 @@ fn write_piece(
     out: &mut [u8],
     at: usize,
 ) -> usize
-    requires start_lt_stop { (start < stop) × (stop ≤ length bulletin.now) }
-    requires stop_in_bounds { at + length (pieceBytes bulletin.now block start stop) ≤ length out.old }
+    requires within { (start < stop) × (stop ≤ length bulletin.now) }
+    requires room { at + length (pieceBytes bulletin.now block start stop) ≤ length out.old }
     ensures { WritesPart out.old at (pieceBytes bulletin.now block start stop) out.new result }
 {
     let end = counted_end(start, stop, block);
@@ -130,8 +130,8 @@ fn has_room(rules: Rules, bulletin: &[u8], flags: &[u8], room: usize) -> bool
 
 // Shows a bulletin with its raw HTML, but the `<` of GitHub's nine tags as `&lt;`, in any reading.
 fn filter_by(rules: Rules, bulletin: &[u8], flags: &[u8], out: &mut [u8]) -> Output
-    ensures result_value { outputOf result ≡ filterOf rules bulletin.now flags.now (length out.old) }
-    ensures out_after { out.new ≡ written (filterRefusal rules bulletin.now flags.now (length out.old)) (filtered rules bulletin.now flags.now) out.old }
+    ensures answer { outputOf result ≡ filterOf rules bulletin.now flags.now (length out.old) }
+    ensures buffer { out.new ≡ written (filterRefusal rules bulletin.now flags.now (length out.old)) (filtered rules bulletin.now flags.now) out.old }
 {
     let refusal = bulletin_refusal(bulletin, flags);
     if refusal != 0 {
@@ -145,8 +145,8 @@ fn filter_by(rules: Rules, bulletin: &[u8], flags: &[u8], out: &mut [u8]) -> Out
 
 // The same with all eight changes.
 pub fn filter(bulletin: &[u8], flags: &[u8], out: &mut [u8]) -> Output
-    ensures result_value { outputOf result ≡ filterOf ofCrate bulletin.now flags.now (length out.old) }
-    ensures out_after { out.new ≡ written (filterRefusal ofCrate bulletin.now flags.now (length out.old)) (filtered ofCrate bulletin.now flags.now) out.old }
+    ensures answer { outputOf result ≡ filterOf ofCrate bulletin.now flags.now (length out.old) }
+    ensures buffer { out.new ≡ written (filterRefusal ofCrate bulletin.now flags.now (length out.old)) (filtered ofCrate bulletin.now flags.now) out.old }
 {
     let all = crate_rules();
     filter_by(all, bulletin, flags, out)

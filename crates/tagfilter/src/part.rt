@@ -32,8 +32,8 @@ fn next_tag(bulletin: &[u8], index: usize, stop: usize) -> usize
 
 // How many bytes come in place of those between two indices.
 pub(crate) fn part_length(bulletin: &[u8], start: usize, stop: usize) -> usize
-    requires start_le_stop { (start ≤ stop) × (stop ≤ length bulletin.now) }
-    requires bulletin_len_bound { length bulletin.now ≤ limit }
+    requires within { (start ≤ stop) × (stop ≤ length bulletin.now) }
+    requires short { length bulletin.now ≤ limit }
     ensures { result ≡ length (replacedBetween bulletin.now start stop) }
 {
     let mut size = stop - start;
@@ -64,8 +64,8 @@ pub(crate) fn write_part(
     out: &mut [u8],
     at: usize,
 ) -> usize
-    requires start_le_stop { (start ≤ stop) × (stop ≤ length bulletin.now) }
-    requires stop_in_bounds { at + length (replacedBetween bulletin.now start stop) ≤ length out.old }
+    requires within { (start ≤ stop) × (stop ≤ length bulletin.now) }
+    requires room { at + length (replacedBetween bulletin.now start stop) ≤ length out.old }
     ensures { WritesPart out.old at (replacedBetween bulletin.now start stop) out.new result }
 {
     let mut from = start;

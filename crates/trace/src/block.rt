@@ -72,8 +72,8 @@ fn flow_length(front: &[u8], index: usize) -> usize
 
 // The events of a block.
 fn mark_flow(text: &[u8], front: &[u8], index: usize, exit: usize, out: &mut [u8]) -> Pen
-    requires text_len_bound { (length text.now ≤ limit) × (index ≤ length front.now) × (length front.now ≤ exit) × (exit ≤ length text.now) }
-    requires in_bounds { eventLength * length (flowPiece front.now index exit) ≤ length out.old }
+    requires within { (length text.now ≤ limit) × (index ≤ length front.now) × (length front.now ≤ exit) × (exit ≤ length text.now) }
+    requires room { eventLength * length (flowPiece front.now index exit) ≤ length out.old }
     ensures { Marked text.now penStart (flowPiece front.now index exit) out.old out.new result }
 {
     let pen = Pen {
@@ -98,8 +98,8 @@ fn write_flow(
     kind: u8,
     out: &mut [u8],
 )
-    requires text_len_bound { (length text.now ≤ limit) × (index ≤ length front.now) × (length front.now ≤ exit) × (exit ≤ length text.now) }
-    requires last_length_in_bounds { eventLength * length (flowPiece front.now index exit) + lastLength ≤ length out.old }
+    requires within { (length text.now ≤ limit) × (index ≤ length front.now) × (length front.now ≤ exit) × (exit ≤ length text.now) }
+    requires room { eventLength * length (flowPiece front.now index exit) + lastLength ≤ length out.old }
     ensures { Written out.old 0 (eventBytes width text.now (flowPiece front.now index exit) ++ lastBytes width 14 stop kind) out.new }
 {
     let pen = mark_flow(text, front, index, exit, out);
@@ -130,8 +130,8 @@ fn trace_flow(
 
 // The trace of a block scan.
 pub fn block_trace(bulletin: &[u8], flags: &[u8], index: usize, out: &mut [u8]) -> Output
-    ensures result_value { outputOf result ≡ blockTraced bulletin.now flags.now index (length out.old) }
-    ensures out_after { out.new ≡ blockBuffer bulletin.now flags.now index out.old }
+    ensures answer { outputOf result ≡ blockTraced bulletin.now flags.now index (length out.old) }
+    ensures buffer { out.new ≡ blockBuffer bulletin.now flags.now index out.old }
 {
     match block_scan(bulletin, flags, index) {
         Block::Found(found) => {

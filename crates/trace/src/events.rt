@@ -29,9 +29,9 @@ pub(crate) struct Pen {
 // An event at an index.
 pub(crate) fn mark(text: &[u8], pen: Pen, kind: u8, index: usize, out: &mut [u8]) -> Pen
     requires ready { Ready text.now pen index }
-    requires event_length_in_bounds { pen.at + eventLength ≤ length out.old }
+    requires room { pen.at + eventLength ≤ length out.old }
     ensures marked { Marked text.now pen (event kind index ∷ []) out.old out.new result }
-    ensures index_value { result.point.index ≡ index }
+    ensures stands { result.point.index ≡ index }
 {
     let at = pen.at;
     let point = pen.point.move_to(text, index);
@@ -52,10 +52,10 @@ pub(crate) fn mark_pair(
     out: &mut [u8],
 ) -> Pen
     requires ready { Ready text.now pen from }
-    requires from_le_to { (from ≤ to) × (to ≤ length text.now) }
-    requires kind_bound { (kind < 255) × (pen.at + 2 * eventLength ≤ length out.old) }
+    requires within { (from ≤ to) × (to ≤ length text.now) }
+    requires room { (kind < 255) × (pen.at + 2 * eventLength ≤ length out.old) }
     ensures marked { Marked text.now pen (pair kind from to) out.old out.new result }
-    ensures index_value { result.point.index ≡ to }
+    ensures stands { result.point.index ≡ to }
 {
     let inside = mark(text, pen, kind, from, out);
     let exit = kind + 1;
@@ -72,10 +72,10 @@ pub(crate) fn mark_some(
     out: &mut [u8],
 ) -> Pen
     requires ready { Ready text.now pen from }
-    requires index_value { (pen.point.index ≡ from) × (from ≤ to) × (to ≤ length text.now) }
-    requires kind_bound { (kind < 255) × (pen.at + eventLength * length (pairOf kind from to) ≤ length out.old) }
+    requires within { (pen.point.index ≡ from) × (from ≤ to) × (to ≤ length text.now) }
+    requires room { (kind < 255) × (pen.at + eventLength * length (pairOf kind from to) ≤ length out.old) }
     ensures marked { Marked text.now pen (pairOf kind from to) out.old out.new result }
-    ensures index_value_2 { result.point.index ≡ to }
+    ensures stands { result.point.index ≡ to }
 {
     if from < to {
         return mark_pair(text, pen, kind, from, to, out);
@@ -94,10 +94,10 @@ fn line_from(front: &[u8], index: usize) -> usize
 // Inline: the ending, leading spaces or tabs, and the data of the line behind it.
 fn mark_text_line(text: &[u8], front: &[u8], pen: Pen, out: &mut [u8]) -> Pen
     requires ready { Ready text.now pen pen.point.index }
-    requires index_in_bounds { (pen.point.index ≤ length front.now) × (length front.now ≤ length text.now) }
-    requires index_in_bounds_2 { pen.at + eventLength * length (textLine front.now pen.point.index) ≤ length out.old }
+    requires within { (pen.point.index ≤ length front.now) × (length front.now ≤ length text.now) }
+    requires room { pen.at + eventLength * length (textLine front.now pen.point.index) ≤ length out.old }
     ensures marked { Marked text.now pen (textLine front.now pen.point.index) out.old out.new result }
-    ensures index_value { result.point.index ≡ lineTo front.now pen.point.index }
+    ensures stands { result.point.index ≡ lineTo front.now pen.point.index }
 {
     let index = pen.point.index;
     let from = line_from(front, index);
@@ -111,10 +111,10 @@ fn mark_text_line(text: &[u8], front: &[u8], pen: Pen, out: &mut [u8]) -> Pen
 // In a block: the ending, and the data of the line behind it, if it has bytes.
 fn mark_flow_line(text: &[u8], front: &[u8], pen: Pen, out: &mut [u8]) -> Pen
     requires ready { Ready text.now pen pen.point.index }
-    requires index_in_bounds { (pen.point.index ≤ length front.now) × (length front.now ≤ length text.now) }
-    requires index_in_bounds_2 { pen.at + eventLength * length (flowLine front.now pen.point.index) ≤ length out.old }
+    requires within { (pen.point.index ≤ length front.now) × (length front.now ≤ length text.now) }
+    requires room { pen.at + eventLength * length (flowLine front.now pen.point.index) ≤ length out.old }
     ensures marked { Marked text.now pen (flowLine front.now pen.point.index) out.old out.new result }
-    ensures index_value { result.point.index ≡ lineTo front.now pen.point.index }
+    ensures stands { result.point.index ≡ lineTo front.now pen.point.index }
 {
     let index = pen.point.index;
     let from = line_from(front, index);
@@ -126,10 +126,10 @@ fn mark_flow_line(text: &[u8], front: &[u8], pen: Pen, out: &mut [u8]) -> Pen
 // The ending at the pen and the line behind it.
 fn mark_line(text: &[u8], front: &[u8], pen: Pen, flow: bool, out: &mut [u8]) -> Pen
     requires ready { Ready text.now pen pen.point.index }
-    requires index_in_bounds { (pen.point.index ≤ length front.now) × (length front.now ≤ length text.now) }
-    requires index_in_bounds_2 { pen.at + eventLength * length (lineEvents flow front.now pen.point.index) ≤ length out.old }
+    requires within { (pen.point.index ≤ length front.now) × (length front.now ≤ length text.now) }
+    requires room { pen.at + eventLength * length (lineEvents flow front.now pen.point.index) ≤ length out.old }
     ensures marked { Marked text.now pen (lineEvents flow front.now pen.point.index) out.old out.new result }
-    ensures index_value { result.point.index ≡ lineTo front.now pen.point.index }
+    ensures stands { result.point.index ≡ lineTo front.now pen.point.index }
 {
     if flow {
         return mark_flow_line(text, front, pen, out);
@@ -140,10 +140,10 @@ fn mark_line(text: &[u8], front: &[u8], pen: Pen, flow: bool, out: &mut [u8]) ->
 // All lines behind the content that ends at the pen.
 pub(crate) fn mark_lines(text: &[u8], front: &[u8], start: Pen, flow: bool, out: &mut [u8]) -> Pen
     requires ready { Ready text.now start start.point.index }
-    requires index_in_bounds { (start.point.index ≤ length front.now) × (length front.now ≤ length text.now) }
-    requires index_in_bounds_2 { start.at + eventLength * length (restEvents flow front.now start.point.index) ≤ length out.old }
+    requires within { (start.point.index ≤ length front.now) × (length front.now ≤ length text.now) }
+    requires room { start.at + eventLength * length (restEvents flow front.now start.point.index) ≤ length out.old }
     ensures marked { Marked text.now start (restEvents flow front.now start.point.index) out.old out.new result }
-    ensures index_in_bounds_3 { result.point.index ≤ length front.now }
+    ensures inside { result.point.index ≤ length front.now }
 {
     let mut pen = start;
     while 0 < line_ending(front, pen.point.index) {
@@ -163,8 +163,8 @@ pub(crate) fn mark_rest(
     out: &mut [u8],
 ) -> Pen
     requires ready { Ready text.now pen pen.point.index }
-    requires index_in_bounds { (pen.point.index ≤ length front.now) × (length front.now ≤ exit) × (exit ≤ length text.now) }
-    requires event_length_in_bounds { pen.at + eventLength * length (restEvents flow front.now pen.point.index) + eventLength ≤ length out.old }
+    requires within { (pen.point.index ≤ length front.now) × (length front.now ≤ exit) × (exit ≤ length text.now) }
+    requires room { pen.at + eventLength * length (restEvents flow front.now pen.point.index) + eventLength ≤ length out.old }
     ensures { Marked text.now pen (restEvents flow front.now pen.point.index ++ (event kind exit ∷ [])) out.old out.new result }
 {
     let lines = mark_lines(text, front, pen, flow, out);
@@ -192,8 +192,8 @@ fn count_line(front: &[u8], index: usize, flow: bool) -> usize
 // How many events all lines behind the content that ends at an index have.
 pub(crate) fn count_lines(front: &[u8], start: usize, flow: bool) -> usize
     requires { (start ≤ length front.now) × (length front.now ≤ limit) }
-    ensures value { result ≡ length (restEvents flow front.now start) }
-    ensures upper_bound { result ≤ 6 * limit }
+    ensures counted { result ≡ length (restEvents flow front.now start) }
+    ensures few { result ≤ 6 * limit }
 {
     let mut count = 0;
     let mut i = start;

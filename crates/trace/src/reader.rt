@@ -39,8 +39,8 @@ pub enum Record {
 
 // The number in the bytes from an index on, low first.
 fn read_field(trace: &[u8], at: usize, width: usize) -> usize
-    requires width_bound { width ≤ 4 }
-    requires width_in_bounds { at + width ≤ length trace.now }
+    requires few { width ≤ 4 }
+    requires within { at + width ≤ length trace.now }
     ensures { result ≡ number_of width (drop at trace.now) }
 {
     let mut value: usize = 0;

@@ -36,8 +36,8 @@ fn text_length(front: &[u8], index: usize) -> usize
 
 // The events of a piece.
 fn mark_text(text: &[u8], front: &[u8], index: usize, stop: usize, out: &mut [u8]) -> Pen
-    requires text_len_bound { (length text.now ≤ limit) × (index ≤ length front.now) × (length front.now ≤ stop) × (stop ≤ length text.now) }
-    requires stop_in_bounds { eventLength * length (textPiece front.now index stop) ≤ length out.old }
+    requires within { (length text.now ≤ limit) × (index ≤ length front.now) × (length front.now ≤ stop) × (stop ≤ length text.now) }
+    requires room { eventLength * length (textPiece front.now index stop) ≤ length out.old }
     ensures { Marked text.now penStart (textPiece front.now index stop) out.old out.new result }
 {
     let pen = Pen {
@@ -52,8 +52,8 @@ fn mark_text(text: &[u8], front: &[u8], index: usize, stop: usize, out: &mut [u8
 
 // The trace of a piece.
 fn write_text(text: &[u8], front: &[u8], index: usize, stop: usize, carry: u8, out: &mut [u8])
-    requires text_len_bound { (length text.now ≤ limit) × (index ≤ length front.now) × (length front.now ≤ stop) × (stop ≤ length text.now) }
-    requires last_length_in_bounds { eventLength * length (textPiece front.now index stop) + lastLength ≤ length out.old }
+    requires within { (length text.now ≤ limit) × (index ≤ length front.now) × (length front.now ≤ stop) × (stop ≤ length text.now) }
+    requires room { eventLength * length (textPiece front.now index stop) + lastLength ≤ length out.old }
     ensures { Written out.old 0 (eventBytes width text.now (textPiece front.now index stop) ++ lastBytes width 13 stop carry) out.new }
 {
     let pen = mark_text(text, front, index, stop, out);
@@ -89,8 +89,8 @@ pub(crate) fn trace_last(kind: u8, index: usize, value: u8, out: &mut [u8]) -> O
 
 // The trace of an inline scan.
 pub fn inline_trace(text: &[u8], index: usize, carry: u8, out: &mut [u8]) -> Output
-    ensures result_value { outputOf result ≡ inlineTraced text.now index carry (length out.old) }
-    ensures out_after { out.new ≡ inlineBuffer text.now index carry out.old }
+    ensures answer { outputOf result ≡ inlineTraced text.now index carry (length out.old) }
+    ensures buffer { out.new ≡ inlineBuffer text.now index carry out.old }
 {
     match inline_scan(text, index, carry) {
         Inline::Found { stop, carry: left } => trace_text(text, index, stop, left, out),

@@ -28,8 +28,8 @@ fn write_field(out: &mut [u8], at: usize, width: usize, value: usize)
 
 // The record of an event: its kind and its point.
 pub(crate) fn write_event(out: &mut [u8], at: usize, kind: u8, point: Point)
-    requires event_length_in_bounds { at + eventLength ≤ length out.old }
-    requires vs_bound { point.vs < 256 }
+    requires room { at + eventLength ≤ length out.old }
+    requires small { point.vs < 256 }
     ensures { Written out.old at (kind ∷ pointBytes traceWidth point) out.new }
 {
     let from = at + 1;

@@ -81,7 +81,7 @@ fn block_end(bulletin: &[u8], flags: &[u8], index: usize, line: usize, stop: usi
 
 // A line that opens a block, which ends at stop.
 fn block_line(rules: Rules, bulletin: &[u8], flags: &[u8], cursor: Cursor, stop: usize) -> Turn
-    requires next_in_bounds { cursor.next < length bulletin.now }
+    requires within { cursor.next < length bulletin.now }
     requires opens { Opens rules bulletin.now flags.now cursor stop }
     ensures { TurnTo rules bulletin.now flags.now cursor result }
 {
@@ -96,8 +96,8 @@ fn block_line(rules: Rules, bulletin: &[u8], flags: &[u8], cursor: Cursor, stop:
 
 // A line that opens no block. Where it has no `<`, the next line may as well begin a paragraph: the end of a paragraph is looked for only where it has a `<`.
 fn text_line(rules: Rules, bulletin: &[u8], flags: &[u8], cursor: Cursor) -> Turn
-    requires next_in_bounds { cursor.next < length bulletin.now }
-    requires line_value { kindOf rules (lineAt bulletin.now flags.now cursor.next cursor.line) ≡ 0 }
+    requires within { cursor.next < length bulletin.now }
+    requires no_block { kindOf rules (lineAt bulletin.now flags.now cursor.next cursor.line) ≡ 0 }
     ensures { TurnTo rules bulletin.now flags.now cursor result }
 {
     let opening = mark_or_line_end(bulletin, cursor.next, b'<');

@@ -54,12 +54,12 @@ returns-then-at-content c = let a = c.args in
     let begun = c.start.ensures in
     c.continuation_after.ensures
     ∙ sym (first-closes a.rules a.bulletin.now a.flags.now a.index a.line _ _ _ c.line_end-stop.ensures c.from_indices-content.ensures c.flag_at.ensures
-    (kindNumber c.in-Opens.kind) c.in-Opens.name (sym begun.result_value ∙ ap openingNumber opens) (named _ _ _ _ opens begun.names) (has-number c.in-Opens.kind) _ c.before_closer-at.ensures c.if-at-content.true)
+    (kindNumber c.in-Opens.kind) c.in-Opens.name (sym begun.kind ∙ ap openingNumber opens) (named _ _ _ _ opens begun.name) (has-number c.in-Opens.kind) _ c.before_closer-at.ensures c.if-at-content.true)
 
 pub returns-in-Shut : goal.returns-in-Shut
 returns-in-Shut c = let a = c.args in
     sym (no-block a.rules a.bulletin.now a.flags.now a.index a.line _ _ _ c.line_end-stop.ensures c.from_indices-content.ensures c.flag_at.ensures
-    (sym c.start.ensures.result_value ∙ ap openingNumber c.in-Shut.is))
+    (sym c.start.ensures.kind ∙ ap openingNumber c.in-Shut.is))
 
 pub returns-else-at-content : goal.returns-else-at-content
 returns-else-at-content c = let a = c.args in
@@ -67,4 +67,4 @@ returns-else-at-content c = let a = c.args in
     let begun = c.start.ensures in
     c.continuation_start.ensures
     ∙ sym (first-on a.rules a.bulletin.now a.flags.now a.index a.line _ _ _ c.line_end-stop.ensures c.from_indices-content.ensures c.flag_at.ensures
-    (kindNumber c.in-Opens.kind) c.in-Opens.name (sym begun.result_value ∙ ap openingNumber opens) (named _ _ _ _ opens begun.names) (has-number c.in-Opens.kind) _ c.before_closer-at.ensures c.if-at-content.false _ (next-flags a.flags.now _ _ c.next_number.ensures))
+    (kindNumber c.in-Opens.kind) c.in-Opens.name (sym begun.kind ∙ ap openingNumber opens) (named _ _ _ _ opens begun.name) (has-number c.in-Opens.kind) _ c.before_closer-at.ensures c.if-at-content.false _ (next-flags a.flags.now _ _ c.next_number.ensures))

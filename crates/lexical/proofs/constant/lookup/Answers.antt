@@ -19,7 +19,7 @@ place_of-requires c = let table = c.requires in
     let places = c.letter_places-places.ensures in
     let from = c.letter_places-places.result.from in
     let size = c.letter_places-places.result.to + 1 - from in
-    record { offsets_value = part-rises _ _ _ table from size; offsets_bound = part-few _ _ _ table from size (omega (arith, forward _ _ _ table _ _ _ places, inside _ _ _ table _ _ _ places)) }
+    record { rises = part-rises _ _ _ table from size; few = part-few _ _ _ table from size (omega (arith, forward _ _ _ table _ _ _ places, inside _ _ _ table _ _ _ places)) }
 
 pub returns : goal.returns
 returns c = c.place_of.ensures ∙ place-is _ _ _ c.requires c.args.name.now _ _ c.letter_places-places.ensures c.if-name-eq0.false

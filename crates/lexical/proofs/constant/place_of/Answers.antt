@@ -12,19 +12,19 @@ pub overflow_cast-end : goal.overflow_cast-end
 overflow_cast-end c = omega (arith, c.shared_slice_known-in-loop-k-2-1.given (c.loop-k.k + 1))
 
 pub slice_bounds-same_lower-count : goal.slice_bounds-same_lower-count
-slice_bounds-same_lower-count c = omega (arith, rises _ _ c.requires.offsets_value c.loop-k.k c.loop-k-test.true)
+slice_bounds-same_lower-count c = omega (arith, rises _ _ c.requires.rises c.loop-k.k c.loop-k-test.true)
 
 pub slice_bounds-same_lower-start : goal.slice_bounds-same_lower-start
-slice_bounds-same_lower-start c = omega (arith, rises _ _ c.requires.offsets_value c.loop-k.k c.loop-k-test.true)
+slice_bounds-same_lower-start c = omega (arith, rises _ _ c.requires.rises c.loop-k.k c.loop-k-test.true)
 
 pub slice_bounds-same_lower-end : goal.slice_bounds-same_lower-end
-slice_bounds-same_lower-end c = within-table _ _ c.requires.offsets_value c.loop-k.k c.loop-k-test.true
+slice_bounds-same_lower-end c = within-table _ _ c.requires.rises c.loop-k.k c.loop-k-test.true
 
 pub overflow_cast-result : goal.overflow_cast-result
-overflow_cast-result c = omega (arith, c.requires.offsets_bound, c.loop-k-test.true)
+overflow_cast-result c = omega (arith, c.requires.few, c.loop-k-test.true)
 
 pub overflow_add-result : goal.overflow_add-result
-overflow_add-result c = omega (arith, c.requires.offsets_bound, c.loop-k-test.true)
+overflow_add-result c = omega (arith, c.requires.few, c.loop-k-test.true)
 
 pub returns-then-same_lower : goal.returns-then-same_lower
 returns-then-same_lower c = sym (hit _ _ c.loop-k.k _ _ c.loop-k-test.true (sym c.same_lower.ensures ∙ c.if-same_lower.true)) ∙ c.loop-k.invariant.1
