@@ -1,4 +1,2 @@
-pub mod Lent
 pub mod Turns
 pub mod Settled
-pub mod LentCall

@@ -1,0 +1,13 @@
+-- The invariant: what is left of the run is the whole run.
+use Prim.Native.Nat.{◌-◌}
+use mathlib.Core.Path.{◌≡◌}
+use lib.ListN.{length, drop}
+use Rattle.html.specs.TextMachine.{runOf}
+use borrow.Author.Rules.{rules}
+use Rattle.reader.proofs.html_text.run.Given as goal
+
+abbrev pub invariant-loop-index : goal.invariant-loop-index
+invariant-loop-index l = runOf l.rules l.state l.size (drop l.index l.text) ≡ runOf l.rules l.initial.state l.initial.size (drop l.initial.index l.text)
+
+abbrev pub decreases-loop-index : goal.decreases-loop-index
+decreases-loop-index l = length l.text - l.index

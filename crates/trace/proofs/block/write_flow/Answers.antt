@@ -1,0 +1,5 @@
+use Rattle.trace.proofs.Marks.{and-last}
+use Rattle.trace.proofs.block.write_flow.Goals as goal
+
+pub returns : goal.returns
+returns c = and-last c.mark_flow-pen.ensures c.write_last.ensures
