@@ -1,5 +1,6 @@
 // GitHub's tag filter over a bulletin: 02, Ask 4.
 #![tactic(auto)]
+
 pub mod filter;
 mod part;
 mod tag;

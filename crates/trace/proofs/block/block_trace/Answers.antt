@@ -14,14 +14,17 @@ trace_flow-requires c = let a = c.args in
 pub returns-in-Found : goal.returns-in-Found
 returns-in-Found c = let a = c.args in
     let e = sym c.block_scan.ensures ∙ ap blockAnswerOf c.in-Found.is in
-    block-found-by a.bulletin.now a.flags.now a.index a.out.now _ _ c.kind_number.ensures e (block-found-passes a.bulletin.now a.flags.now a.index _ e) c.trace_flow.ensures
+    let both = block-found-by a.bulletin.now a.flags.now a.index a.out.now _ _ c.kind_number.ensures e (block-found-passes a.bulletin.now a.flags.now a.index _ e) c.trace_flow.ensures in
+    record { answer = both.0; buffer = both.1 }
 
 pub returns-in-Missing : goal.returns-in-Missing
 returns-in-Missing c = let a = c.args in
     let e = sym c.block_scan.ensures ∙ ap blockAnswerOf c.in-Missing.is in
-    block-none-by a.bulletin.now a.flags.now a.index a.out.now e (block-none-passes a.bulletin.now a.flags.now a.index e) c.trace_last.ensures
+    let both = block-none-by a.bulletin.now a.flags.now a.index a.out.now e (block-none-passes a.bulletin.now a.flags.now a.index e) c.trace_last.ensures in
+    record { answer = both.0; buffer = both.1 }
 
 pub returns-in-Refused : goal.returns-in-Refused
 returns-in-Refused c = let a = c.args in
     let e = sym c.block_scan.ensures ∙ ap blockAnswerOf c.in-Refused.is in
-    block-refused-by a.bulletin.now a.flags.now a.index a.out.now _ e (block-refused-number a.bulletin.now a.flags.now a.index _ e) (block-refused-some a.bulletin.now a.flags.now a.index _ e)
+    let both = block-refused-by a.bulletin.now a.flags.now a.index a.out.now _ e (block-refused-number a.bulletin.now a.flags.now a.index _ e) (block-refused-some a.bulletin.now a.flags.now a.index _ e) in
+    record { answer = both.0; buffer = both.1 }

@@ -15,14 +15,17 @@ trace_text-requires c = let a = c.args in
 pub returns-in-Found : goal.returns-in-Found
 returns-in-Found c = let a = c.args in
     let e = sym c.inline_scan.ensures ∙ ap inlineOf c.in-Found.is in
-    found-by a.text.now a.index a.carry a.out.now _ _ e (found-passes a.text.now a.index a.carry _ _ e) c.trace_text.ensures
+    let both = found-by a.text.now a.index a.carry a.out.now _ _ e (found-passes a.text.now a.index a.carry _ _ e) c.trace_text.ensures in
+    record { answer = both.0; buffer = both.1 }
 
 pub returns-in-Missing : goal.returns-in-Missing
 returns-in-Missing c = let a = c.args in
     let e = sym c.inline_scan.ensures ∙ ap inlineOf c.in-Missing.is in
-    none-by a.text.now a.index a.carry a.out.now _ e (none-passes a.text.now a.index a.carry _ e) c.trace_last.ensures
+    let both = none-by a.text.now a.index a.carry a.out.now _ e (none-passes a.text.now a.index a.carry _ e) c.trace_last.ensures in
+    record { answer = both.0; buffer = both.1 }
 
 pub returns-in-Refused : goal.returns-in-Refused
 returns-in-Refused c = let a = c.args in
     let e = sym c.inline_scan.ensures ∙ ap inlineOf c.in-Refused.is in
-    refused-by a.text.now a.index a.carry a.out.now _ _ e (refused-number a.text.now a.index a.carry _ _ e) (refused-some a.text.now a.index a.carry _ _ e)
+    let both = refused-by a.text.now a.index a.carry a.out.now _ _ e (refused-number a.text.now a.index a.carry _ _ e) (refused-some a.text.now a.index a.carry _ _ e) in
+    record { answer = both.0; buffer = both.1 }
