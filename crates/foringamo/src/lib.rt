@@ -2,6 +2,7 @@
 //
 // On a refusal every count and stop is 0, the carry is the one passed in, and no lent byte changes.
 #![tactic(auto)]
+
 pub mod block;
 pub mod filter;
 pub mod inline;
