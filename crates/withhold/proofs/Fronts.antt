@@ -1,15 +1,12 @@
 -- Of buffers in which only the front changes: a change in the front of what is left is one in a longer front of the whole.
-use mathlib.Core.Path.{◌≡◌, refl, sym, ◌∙◌, ap}
+use mathlib.Core.Path.{◌≡◌, sym, ◌∙◌, ap}
 use mathlib.Core.List.{List, ◌++◌}
-use Prim.Native.Nat.{ℕ, ◌+◌, ◌-◌, ◌≤◌, zero-le}
+use Prim.Native.Nat.{ℕ, ◌+◌, ◌-◌, ◌≤◌}
 use native.Mathlib.Omega.{arith}
 use lib.ListN.{length, take, drop, length-take, length-drop, take-append-drop}
 use lib.Seq.{drop-drop, drop-append-add, drop-append-le, length-take-le}
 use borrow.Rule.Slice.PartMut.{mid_of, post_of, put_mid, same_len_mid}
 use Rattle.withhold.specs.Input.{FrontOnly}
-
-pub untouched : (l : List ℕ) → FrontOnly 0 l l
-untouched l = record { room = zero-le; same = refl; rest = refl }
 
 -- the rest, from an index on, is lent and comes back
 module _ (done count : ℕ) (old buffer back : List ℕ) (before : FrontOnly done old buffer) (front : FrontOnly count (mid_of done (length buffer - done) buffer) back) where

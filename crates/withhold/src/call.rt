@@ -1,8 +1,9 @@
-// What a call of C's `read` or `write` tells.
+// What a call of `read` or `write` tells.
 ghost use Rattle.std.specs.Prelude.{◌≡◌};
-ghost use Rattle.withhold.specs.Call.{toldOf};
+ghost use Rattle.withhold.specs.Call.{toldOf, unsuccessful};
 
-use libc::EINTR;
+use std::io;
+use std::io::ErrorKind;
 
 // How many calls of one loop a signal may interrupt. One more counts as failed: a loop has to end.
 pub(crate) const PATIENCE: usize = 1000000;
@@ -16,25 +17,26 @@ pub(crate) enum Told {
     Failed,
 }
 
-// From a call's answer, errno behind it, and the patience left.
-pub(crate) fn tells(answer: isize, error: i32, patience: usize) -> Told
-    ensures { result ≡ toldOf answer error patience }
+// From a call's answer, and the patience left.
+pub(crate) fn tells(answer: io::Result<usize>, patience: usize) -> Told
+    ensures { result ≡ toldOf answer patience }
 {
-    if answer > 0 {
-        let count = answer as usize;
-        return Told::Again { count, patience };
+    match answer {
+        Ok(0) => Told::Nothing,
+        Ok(count) => Told::Again { count, patience },
+        Err(error) => interrupted(error.kind() == ErrorKind::Interrupted, patience),
     }
-    if answer < 0 {
-        if error != EINTR {
-            return Told::Failed;
-        }
-        if patience == 0 {
-            return Told::Failed;
-        }
+}
+
+// A call that did not succeed.
+fn interrupted(by_signal: bool, patience: usize) -> Told
+    ensures { result ≡ unsuccessful by_signal patience }
+{
+    if by_signal & (patience > 0) {
         return Told::Again {
             count: 0,
             patience: patience - 1,
         };
     }
-    Told::Nothing
+    Told::Failed
 }

@@ -3,9 +3,9 @@ ghost use Rattle.std.specs.Prelude.{◌≤◌};
 ghost use Rattle.withhold.specs.Input.{Front, Filled};
 
 use crate::call::{PATIENCE, Told, tells};
-use libc::read;
+use std::io::Read;
 
-// How many bytes one call reads at most: what io's buffer holds.
+// How many bytes one call reads at most.
 const CHUNK: usize = 4096;
 
 #[derive(Clone, Copy)]
@@ -21,41 +21,26 @@ fn least(a: usize, b: usize) -> usize
 }
 
 // One call, into the front of what is left of a buffer.
-fn read_front(fd: i32, rest: &mut [u8], patience: usize) -> Told
+fn read_front<R: Read>(reader: &mut R, rest: &mut [u8], patience: usize) -> Told
     ensures { Front patience result rest.old rest.new }
 {
-    let mut chunk = io::buffer();
+    let mut chunk = [0u8; CHUNK];
     let size = least(rest.len(), CHUNK);
-    let answer = read(fd, &mut chunk[0..size]);
-    let error = os::errno();
-    match tells(answer, error, patience) {
-        Told::Again {
-            count,
-            patience: left,
-        } => {
-            bytes::copy(&chunk[0..count], rest);
-            return Told::Again {
-                count,
-                patience: left,
-            };
-        }
-        Told::Nothing => {
-            return Told::Nothing;
-        }
-        Told::Failed => {
-            return Told::Failed;
-        }
+    let told = tells(reader.read(&mut chunk[0..size]), patience);
+    if let Told::Again { count, patience: _ } = told {
+        rest[0..count].copy_from_slice(&chunk[0..count]);
     }
+    told
 }
 
 // Reads until the input ends or the buffer is full.
-pub(crate) fn read_input(fd: i32, buffer: &mut [u8]) -> Input
+pub(crate) fn read_input<R: Read>(reader: &mut R, buffer: &mut [u8]) -> Input
     ensures { Filled result buffer.old buffer.new }
 {
     let mut done = 0;
     let mut patience = PATIENCE;
     while done < buffer.len() {
-        match read_front(fd, &mut buffer[done..], patience) {
+        match read_front(reader, &mut buffer[done..], patience) {
             Told::Again {
                 count,
                 patience: left,

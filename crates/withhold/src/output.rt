@@ -2,18 +2,16 @@
 ghost use Rattle.std.specs.Prelude.{◌≤◌, length};
 
 use crate::call::{PATIENCE, Told, tells};
-use libc::write;
+use std::io::Write;
 
 // Writes the bytes, and gives how many were taken: fewer than all where a call failed.
-pub(crate) fn write_output(fd: i32, bytes: &[u8]) -> usize
+pub(crate) fn write_output<W: Write>(writer: &mut W, bytes: &[u8]) -> usize
     ensures { result ≤ length bytes.now }
 {
     let mut done = 0;
     let mut patience = PATIENCE;
     while done < bytes.len() {
-        let answer = write(fd, &bytes[done..]);
-        let error = os::errno();
-        match tells(answer, error, patience) {
+        match tells(writer.write(&bytes[done..]), patience) {
             Told::Again {
                 count,
                 patience: left,
