@@ -4,7 +4,7 @@ use Rattle.lexical.specs.Text.{byte, run}
 use Rattle.lexical.specs.Byte.{isLineEndingByte}
 use Rattle.lexical.specs.Line.{isInner, lineLength}
 use Rattle.lexical.specs.Name.{all}
-use Rattle.lexical.proofs.Cases.{split, and-left, and-right, and-yes, and-no}
+use Rattle.lexical.proofs.Cases.{split, and-left, and-right, and-yes, and-no, or-yes}
 use Rattle.lexical.proofs.Suffix.{suffix-in, suffix-out}
 
 -- where the run of a class that begins at an index of a text ends
@@ -114,3 +114,13 @@ ending-mark b = split (eqb b (byte "\n")) (λ h. simp h) (λ h. simp h)
 
 pub line-length : (s : List ℕ) → run (isInner (byte "\n")) s ≡ lineLength s
 line-length s = run-same (isInner (byte "\n")) (λ b. not (isLineEndingByte b)) ending-mark s
+
+-- ---- a line ends where it does, seen from a mark in it
+inner-line : (mark i x : ℕ) (xs : List ℕ) → isInner mark x ≡ true → i + lineLength (x ∷ xs) ≡ i + 1 + lineLength xs
+unfolding run
+inner-line mark i x xs h =
+    split (isLineEndingByte x) (λ e. let z : false ≡ true = simp (e, or-yes (eqb x mark)) at h in cc)
+    (λ e. let z : i + suc (lineLength xs) ≡ i + 1 + lineLength xs = omega arith in simp e z)
+
+pub line-end-behind : (mark : ℕ) (s : List ℕ) (i j : ℕ) → j ≡ runEnd (isInner mark) s i → i + lineLength (drop i s) ≡ j + lineLength (drop j s)
+line-end-behind mark = behind-from (isInner mark) (λ i s. i + lineLength s) (inner-line mark)

@@ -8,6 +8,7 @@ use Rattle.rules.specs.Scan.{InlineAnswer, foundInline, noInline, refusedInline,
 use Rattle.rules.specs.Withhold.{shown, Shown, shows, refusedShown, withhold, written}
 use Rattle.rules.specs.Output.{Wrote, wrote, refusedWrite}
 use Rattle.rules.specs.Filter.{filtered, filter}
+use Rattle.rules.specs.declared.Rules.{Rules}
 use Rattle.rules.specs.Rows.{sameInline, sameBlock, inlineRow, blockRow}
 use Rattle.rules.specs.Computing.{computing}
 
@@ -183,8 +184,42 @@ standards =
     ∷ sameAnswer (withhold standard (bytes "a<b c=d/e>") (0 ∷ []) 1) (shows 1 1)
     ∷ []
 
-pub corners-hold : all (λ b. b) (texts ++ (blocks ++ (names ++ (closers ++ (refusals ++ (outputs ++ (filters ++ standards))))))) ≡ true
-unfolding computing texts blocks names closers refusals outputs filters standards
+-- 02, Ask 6: `<` behind an odd run of backslashes is text, in both readings
+abbrev pub shownRow : Rules → List ℕ → List ℕ → List ℕ → Bool
+shownRow ρ text flags output = sameBytes (shown ρ text flags) output
+
+unfoldable pub backslashes : Rules → List Bool
+backslashes ρ =
+    shownRow ρ (bytes "\\<b>") (0 ∷ []) (bytes "\\<b>")
+    ∷ shownRow ρ (bytes "a \\\\<b>c") (0 ∷ []) (bytes "a \\\\c")
+    ∷ shownRow ρ (bytes "a \\\\\\<b>c") (0 ∷ []) (bytes "a \\\\\\<b>c")
+    -- another byte, or a line ending, breaks the run
+    ∷ shownRow ρ (bytes "a \\ <b>c") (0 ∷ []) (bytes "a \\ c")
+    ∷ shownRow ρ (bytes "a \\\n<b>c") (0 ∷ 2 ∷ []) (bytes "a \\\nc")
+    -- counted back to the last piece, and to the start of the paragraph
+    ∷ shownRow ρ (bytes "a <b>\\<i>") (0 ∷ []) (bytes "a \\<i>")
+    ∷ shownRow ρ (bytes "a\n\n\\<b>") (0 ∷ 0 ∷ 0 ∷ []) (bytes "a\n\n\\<b>")
+    -- a backslash inside a piece; and what stands in a tag that is not tried is tried
+    ∷ shownRow ρ (bytes "a <!-- \\--><b>c") (0 ∷ []) (bytes "a c")
+    ∷ shownRow ρ (bytes "a <b c=\"\\\">d") (0 ∷ []) (bytes "a d")
+    ∷ shownRow ρ (bytes "a \\<b <i>c") (0 ∷ []) (bytes "a \\<b c")
+    -- another byte than a backslash escapes nothing
+    ∷ shownRow ρ (bytes "a /<b>c") (0 ∷ []) (bytes "a /c")
+    -- block openings are untouched, and blocks have no such rule
+    ∷ shownRow ρ (bytes "a\\\n<div>\nx") (0 ∷ 2 ∷ 0 ∷ []) (bytes "a\\\n")
+    ∷ shownRow ρ (bytes "<div>\\<b>\n\n") (0 ∷ 0 ∷ 0 ∷ []) (bytes "\n\n")
+    ∷ shownRow ρ (bytes "\\<div>\nx") (0 ∷ 0 ∷ []) (bytes "\\<div>\nx")
+    ∷ []
+
+-- the filter goes by the same pieces
+unfoldable pub filteredBackslashes : List Bool
+filteredBackslashes =
+    filterRow (bytes "a \\<xmp> \\\\<xmp>") (0 ∷ []) (bytes "a \\<xmp> \\\\&lt;xmp>")
+    ∷ filterRow (bytes "<div>\\<xmp>") (0 ∷ []) (bytes "<div>\\&lt;xmp>")
+    ∷ []
+
+pub corners-hold : all (λ b. b) (texts ++ (blocks ++ (names ++ (closers ++ (refusals ++ (outputs ++ (filters ++ (standards ++ (backslashes crate ++ (backslashes standard ++ filteredBackslashes)))))))))) ≡ true
+unfolding computing texts blocks names closers refusals outputs filters standards backslashes filteredBackslashes
 corners-hold = refl
 
 -- 1 comes before all others, from the first byte over the limit on

@@ -1,5 +1,6 @@
 -- Withholding, 01, Withhold: the pieces of a bulletin, and what is shown of it.
-use Rattle.std.specs.Prelude.{ℕ, zero, suc, ◌+◌, ◌-◌, Bool, true, false, ◌&&◌, ◌||◌, List, [], ◌∷◌, ◌++◌, eqb, leb, ltb, length, drop}
+use Rattle.std.specs.Prelude.{ℕ, zero, suc, ◌+◌, ◌-◌, Bool, true, false, ◌&&◌, ◌||◌, not, List, [], ◌∷◌, ◌++◌, eqb, leb, ltb, length, drop}
+use Rattle.lexical.specs.Text.{byte}
 use Rattle.lexical.specs.Line.{isBlank}
 use Rattle.rules.specs.Search.{choose}
 use Rattle.rules.specs.Inline.{Read, takes, lacks, readInline}
@@ -59,13 +60,22 @@ abbrev pub byRead : Read → (Unit {0} → List Piece) → (List ℕ → List Pi
 byRead (takes s k) none found = found s
 byRead (lacks k) none found = none tt
 
--- each `<` of a paragraph is tried, leftmost first, with carry 0; the next one is looked for behind what was found. s begins at i and has at most n bytes
-unfoldable pub inlinePieces : Rules → ℕ → ℕ → List ℕ → List Piece
-inlinePieces ρ zero i s = []
-inlinePieces ρ (suc n) i [] = []
-inlinePieces ρ (suc n) i (x ∷ xs) =
-    byRead (readInline ρ 0 (x ∷ xs)) (λ _. inlinePieces ρ n (suc i) xs)
-    (λ s. piece i (i + (length (x ∷ xs) - length s)) inline ∷ inlinePieces ρ n (i + (length (x ∷ xs) - length s)) s)
+-- 02, Ask 6: whether an odd run of backslashes stands behind x; odd: whether one stands before it
+abbrev pub oddBehind : Bool → ℕ → Bool
+oddBehind odd x = eqb x (byte "\\") && not odd
+
+-- what begins with s is not tried behind an odd run of backslashes
+abbrev pub tried : Rules → Bool → List ℕ → Read
+tried ρ odd s = choose odd (λ _. lacks 0) (λ _. readInline ρ 0 s)
+
+-- each `<` of a paragraph is tried, leftmost first, with carry 0, but those that follow an odd run of backslashes, counted back to the start of the paragraph or to
+-- the last piece; the next one is looked for behind what was found. s begins at i and has at most n bytes; odd: whether an odd run stands just before s
+unfoldable pub inlinePieces : Rules → ℕ → ℕ → Bool → List ℕ → List Piece
+inlinePieces ρ zero i odd s = []
+inlinePieces ρ (suc n) i odd [] = []
+inlinePieces ρ (suc n) i odd (x ∷ xs) =
+    byRead (tried ρ odd (x ∷ xs)) (λ _. inlinePieces ρ n (suc i) (oddBehind odd x) xs)
+    (λ s. piece i (i + (length (x ∷ xs) - length s)) inline ∷ inlinePieces ρ n (i + (length (x ∷ xs) - length s)) false s)
 
 -- of all lines, the first of which stands behind the index i; a block goes from the first byte of its first line to its stop
 unfoldable pub linePieces : Rules → ℕ → List Mark → List Line → List Piece
@@ -77,7 +87,7 @@ linePieces ρ i (blockFirst k e ∷ ms) (l ∷ ls) =
 linePieces ρ i (blockMore ∷ ms) (l ∷ ls) = linePieces ρ (i + length l.lead + length l.content) ms ls
 linePieces ρ i (blank ∷ ms) (l ∷ ls) = linePieces ρ (i + length l.lead + length l.content) ms ls
 linePieces ρ i (paragraphFirst ∷ ms) (l ∷ ls) =
-    inlinePieces ρ (length (l.content ++ goesOn ms ls)) (i + length l.lead) (l.content ++ goesOn ms ls)
+    inlinePieces ρ (length (l.content ++ goesOn ms ls)) (i + length l.lead) false (l.content ++ goesOn ms ls)
     ++ linePieces ρ (i + length l.lead + length l.content) ms ls
 linePieces ρ i (paragraphMore ∷ ms) (l ∷ ls) = linePieces ρ (i + length l.lead + length l.content) ms ls
 

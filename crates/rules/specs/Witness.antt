@@ -278,6 +278,9 @@ swaps =
     ∷ body 0 (bytes "<b> a ") comment (bytes "x") (bytes "yz") []
     -- in a quoted value of a tag
     ∷ body 0 (bytes "a <b c=\"") comment (bytes "x") (bytes "yz") (bytes "\">")
+    -- a body that ends in a backslash; behind a backslash, in a quoted value
+    ∷ body 0 (bytes "a ") comment (bytes "x\\") (bytes "\\") (bytes "<b>")
+    ∷ body 0 (bytes "a <b c=\"\\") comment (bytes "x\\") (bytes "y") (bytes "\">")
     -- in a block: as the whole of one, and among the lines of another
     ∷ body 2 [] comment (bytes "x") (bytes "yz") []
     ∷ body 2 (bytes "<!--\n") instruction (bytes "x") (bytes "yz") (bytes "\n-->")

@@ -1,5 +1,6 @@
 -- The pieces of lines that stand at moved indices are the moved pieces: the lines behind the private bytes.
 use mathlib.Core.Path.{◌≡◌, refl}
+use mathlib.Core.Bool.{false}
 use mathlib.Core.List.{List, [], ◌∷◌, ◌++◌}
 use Prim.Native.Nat.{ℕ, zero, suc, ◌+◌}
 use native.Mathlib.Omega.{arith}
@@ -42,6 +43,6 @@ module _ (ρ : Rules) (p j₁ j₂ : ℕ) where
   lines-behind (blank ∷ ms) (l ∷ ls) i₁ i₂ c e₁ e₂ = lines-behind ms ls (i₁ + length l.lead + length l.content) (i₂ + length l.lead + length l.content) (c + length l.lead + length l.content) (omega arith) (omega arith)
   lines-behind (paragraphFirst ∷ ms) (l ∷ ls) i₁ i₂ c e₁ e₂ =
       let t = l.content ++ goesOn ms ls in
-      both (pieces-behind ρ p j₁ j₂ (length t) (length t) t (i₁ + length l.lead) (i₂ + length l.lead) (c + length l.lead) (omega arith) (omega arith) (omega arith) (omega arith))
+      both (pieces-behind ρ p j₁ j₂ (length t) (length t) false t (i₁ + length l.lead) (i₂ + length l.lead) (c + length l.lead) (omega arith) (omega arith) (omega arith) (omega arith))
       (lines-behind ms ls (i₁ + length l.lead + length l.content) (i₂ + length l.lead + length l.content) (c + length l.lead + length l.content) (omega arith) (omega arith))
   lines-behind (paragraphMore ∷ ms) (l ∷ ls) i₁ i₂ c e₁ e₂ = lines-behind ms ls (i₁ + length l.lead + length l.content) (i₂ + length l.lead + length l.content) (c + length l.lead + length l.content) (omega arith) (omega arith)

@@ -138,10 +138,10 @@ module _ (ρ : Rules) (f : Form) (b₁ b₂ : List ℕ) (h₁ : all isPrivate b�
     text-on (paragraphMore ∷ ms) (l ∷ e) i h =
         text-after l.lead i (text-after l.content (i + length l.lead) (text-on ms e (i + length l.lead + length l.content) (omega arith)))
 
-    text-pieces : (i : ℕ) {s t : List ℕ} → Text i s t → Corresponding p (p + d₁) (p + d₂) (inlinePieces ρ (length s) i s) (inlinePieces ρ (length t) i t)
-    text-pieces i (prior s l) = pieces-prior ρ p (p + d₁) (p + d₂) (length s) s i l
+    text-pieces : (i : ℕ) {s t : List ℕ} → Text i s t → Corresponding p (p + d₁) (p + d₂) (inlinePieces ρ (length s) i false s) (inlinePieces ρ (length t) i false t)
+    text-pieces i (prior s l) = pieces-prior ρ p (p + d₁) (p + d₂) (length s) false s i l
     text-pieces i (here u q e) =
-        pieces-ahead ρ f b₁ b₂ q h₁ h₂ p d₁ d₂ (around-some f b₁) (around-some f b₂) (inside-length f b₁ q) (inside-length f b₂ q) _ _ i u e (omega arith) (omega arith)
+        pieces-ahead ρ f b₁ b₂ q h₁ h₂ p d₁ d₂ (around-some f b₁) (around-some f b₂) (inside-length f b₁ q) (inside-length f b₂ q) _ _ i false u e (omega arith) (omega arith)
 
     -- behind the line
     after-line : (ms : List Mark) (i : ℕ) → i + length lead + length a ≡ p

@@ -12,6 +12,7 @@ use Rattle.lexical.proofs.Cases.{split}
 use Rattle.rules.specs.Search.{choose, begins, past, Left, left, nothing, orElse, exactly, throughFirst}
 use Rattle.rules.specs.Tag.{Grammar, inlineTags, tagEnd, pastQuote, specification, startsName, pastUnquoted, value, values, attribute, attributes, openTag, closingTag}
 use Rattle.rules.specs.Inline.{comment, instruction, declaration, htmlTag, prefix, Read, takes, lacks, carrying, cdataBody, rawHtml, keeping, readInline}
+use Rattle.rules.specs.Withhold.{tried}
 use Rattle.rules.specs.declared.Rules.{Rules}
 use Rattle.rules.proofs.Comment.{comment-is}
 use Rattle.rules.proofs.Past.{past-length}
@@ -147,3 +148,7 @@ read-most ρ x s = either ρ.t2
     either : (t2 : Bool) → ReadMost s (choose t2 (λ _. rawHtml ρ 0 (x ∷ s)) (λ _. keeping 0 (rawHtml ρ 0 (x ∷ s))))
     either true = raw-most ρ x s
     either false = kept-most 0 s (rawHtml ρ 0 (x ∷ s)) (raw-most ρ x s)
+
+pub tried-most : (ρ : Rules) (odd : Bool) (x : ℕ) (s : List ℕ) → ReadMost s (tried ρ odd (x ∷ s))
+tried-most ρ true x s = tt
+tried-most ρ false x s = read-most ρ x s

@@ -12,10 +12,10 @@ use borrow.Author.Tests.{le-ltb, leb-true, ltb-true, ltb-false}
 use Rattle.lexical.specs.Line.{isBlank}
 use Rattle.lexical.proofs.Cases.{split, clash, and-left, and-right}
 use Rattle.rules.specs.Search.{choose}
-use Rattle.rules.specs.Inline.{Read, takes, lacks, readInline}
+use Rattle.rules.specs.Inline.{Read, takes, lacks}
 use Rattle.rules.specs.Lines.{Line}
 use Rattle.rules.specs.Block.{Extent, kindOf, extentOf, stopAfter}
-use Rattle.rules.specs.Withhold.{inline, Piece, piece, Mark, blockFirst, blockMore, blank, paragraphFirst, paragraphMore, marks, goesOn, byRead, inlinePieces, linePieces}
+use Rattle.rules.specs.Withhold.{inline, Piece, piece, Mark, blockFirst, blockMore, blank, paragraphFirst, paragraphMore, marks, goesOn, byRead, oddBehind, tried, inlinePieces, linePieces}
 use Rattle.rules.specs.Private.{any, encloses}
 use Rattle.rules.specs.declared.Rules.{Rules}
 use Rattle.runs.proofs.Corresponding.{At, early, Corresponding, next, both, early-at, late-at}
@@ -40,16 +40,16 @@ and-none true b = refl
 and-none false b = refl
 
 -- no inline piece does
-inline-none : (ρ : Rules) (i j n k : ℕ) (s : List ℕ) → any (encloses i j) (inlinePieces ρ n k s) ≡ false
+inline-none : (ρ : Rules) (i j n k : ℕ) (odd : Bool) (s : List ℕ) → any (encloses i j) (inlinePieces ρ n k odd s) ≡ false
 unfolding any inlinePieces
-inline-none ρ i j zero k s = refl
-inline-none ρ i j (suc n) k [] = refl
-inline-none ρ i j (suc n) k (x ∷ s) = by-read (λ m t. inline-none ρ i j n m t) (readInline ρ 0 (x ∷ s))
+inline-none ρ i j zero k odd s = refl
+inline-none ρ i j (suc n) k odd [] = refl
+inline-none ρ i j (suc n) k odd (x ∷ s) = by-read (λ m o t. inline-none ρ i j n m o t) (tried ρ odd (x ∷ s))
   where
-    by-read : ((m : ℕ) (t : List ℕ) → any (encloses i j) (inlinePieces ρ n m t) ≡ false) → (r : Read)
-        → any (encloses i j) (byRead r (λ _. inlinePieces ρ n (suc k) s) (λ t. piece k (k + (length (x ∷ s) - length t)) inline ∷ inlinePieces ρ n (k + (length (x ∷ s) - length t)) t)) ≡ false
-    by-read ih (takes t c) = ih (k + (length (x ∷ s) - length t)) t
-    by-read ih (lacks c) = ih (suc k) s
+    by-read : ((m : ℕ) (o : Bool) (t : List ℕ) → any (encloses i j) (inlinePieces ρ n m o t) ≡ false) → (r : Read)
+        → any (encloses i j) (byRead r (λ _. inlinePieces ρ n (suc k) (oddBehind odd x) s) (λ t. piece k (k + (length (x ∷ s) - length t)) inline ∷ inlinePieces ρ n (k + (length (x ∷ s) - length t)) false t)) ≡ false
+    by-read ih (takes t c) = ih (k + (length (x ∷ s) - length t)) false t
+    by-read ih (lacks c) = ih (suc k) (oddBehind odd x) s
 
 -- and none that begins at i or behind it
 none-behind : (ρ : Rules) (i j : ℕ) (ms : List Mark) (ls : List Line) (k : ℕ) → i ≤ k + firstLead ls → any (encloses i j) (linePieces ρ k ms ls) ≡ false
@@ -63,8 +63,8 @@ none-behind ρ i j (blank ∷ ms) (l ∷ ls) k h = none-behind ρ i j ms ls (k +
 none-behind ρ i j (paragraphFirst ∷ ms) (l ∷ ls) k h =
     let t = l.content ++ goesOn ms ls in
     let n = k + length l.lead + length l.content in
-    any-append (encloses i j) (inlinePieces ρ (length t) (k + length l.lead) t) (linePieces ρ n ms ls)
-    ∙ ap (λ (b : Bool). b || any (encloses i j) (linePieces ρ n ms ls)) (inline-none ρ i j (length t) (k + length l.lead) t)
+    any-append (encloses i j) (inlinePieces ρ (length t) (k + length l.lead) false t) (linePieces ρ n ms ls)
+    ∙ ap (λ (b : Bool). b || any (encloses i j) (linePieces ρ n ms ls)) (inline-none ρ i j (length t) (k + length l.lead) false t)
     ∙ none-behind ρ i j ms ls n (omega arith)
 none-behind ρ i j (paragraphMore ∷ ms) (l ∷ ls) k h = none-behind ρ i j ms ls (k + length l.lead + length l.content) (omega arith)
 
@@ -132,10 +132,10 @@ module _ (ρ : Rules) (a b back : List Line) (r : Privates a b) (p j₁ j₂ at 
         let n = i + length l.lead + length l.content in
         let m = i + length l.lead in
         let f = encloses (suc p) (suc j₁) in
-        let skip : any f (inlinePieces ρ (length t) m t ++ linePieces ρ n x (one e)) ≡ any f (linePieces ρ n x (one e)) =
-        any-append f (inlinePieces ρ (length t) m t) (linePieces ρ n x (one e)) ∙ ap (λ (c : Bool). c || any f (linePieces ρ n x (one e))) (inline-none ρ (suc p) (suc j₁) (length t) m t) in
+        let skip : any f (inlinePieces ρ (length t) m false t ++ linePieces ρ n x (one e)) ≡ any f (linePieces ρ n x (one e)) =
+        any-append f (inlinePieces ρ (length t) m false t) (linePieces ρ n x (one e)) ∙ ap (λ (c : Bool). c || any f (linePieces ρ n x (one e))) (inline-none ρ (suc p) (suc j₁) (length t) m false t) in
         let w = ih (sym skip ∙ k) in
-        let prior = pieces-prior ρ p j₁ j₂ (length t) t m (omega (arith, length-append l.content (goesOn x (one e)), w.text-size)) in
+        let prior = pieces-prior ρ p j₁ j₂ (length t) false t m (omega (arith, length-append l.content (goesOn x (one e)), w.text-size)) in
         let same : t ≡ l.content ++ goesOn x (two e) = ap (λ (s : List ℕ). l.content ++ s) w.same-text in
         record {
           same-marks = ap (λ (ms : List Mark). paragraphFirst ∷ ms) w.same-marks;

@@ -2,21 +2,23 @@
 -- the two end conditions that are no plain search, of raw names and of F1, come to the same for every body.
 use mathlib.Core.Path.{◌≡◌, refl, ◌∙◌}
 use mathlib.Core.Bool.{Bool, true, false}
-use mathlib.Core.List.{List, [], ◌∷◌, ◌++◌}
+use mathlib.Core.List.{List, [], ◌∷◌, ◌++◌, append_assoc}
 use Prim.Native.Nat.{ℕ}
-use Rattle.lexical.specs.Text.{byte, run}
+use lib.Dec.{eqb}
+use Rattle.lexical.specs.Text.{byte, bytes, run}
 use Rattle.lexical.specs.Byte.{isLetter}
 use Rattle.lexical.specs.Name.{all, isMember, sameBytes, isRawName, rawNames, cdataPrefix}
-use Rattle.lexical.proofs.Cases.{excluded}
+use Rattle.lexical.proofs.Cases.{excluded, and-left, and-right}
 use Rattle.rules.specs.Search.{choose, somewhere}
 use Rattle.rules.specs.Tag.{openTag, closingTag}
-use Rattle.rules.specs.Inline.{instruction, declaration, htmlTag, prefix, takes, rawHtml, readInline}
+use Rattle.rules.specs.Inline.{instruction, declaration, htmlTag, prefix, takes, lacks, rawHtml, readInline}
 use Rattle.rules.specs.Block.{kindAt, startsRaw, isRawEnd}
+use Rattle.rules.specs.Withhold.{tried}
 use Rattle.rules.specs.Private.{isPrivate, Form, closer, comment as Comment, instruction as Instruction, declaration as Declaration, cdata as Cdata}
 use Rattle.rules.specs.declared.Rules.{Rules}
 use Rattle.rules.proofs.Comment.{comment-is}
 use Rattle.runs.proofs.Closes.{closesEven}
-use Rattle.runs.proofs.Body.{inside, rest, private-other, private-calm, raw-over, even-over, comment-ends, instruction-ends, angle-ends, cdata-ends}
+use Rattle.runs.proofs.Body.{inside, rest, other, private-other, private-calm, raw-over, even-over, comment-ends, instruction-ends, angle-ends, cdata-ends}
 
 -- ---- inline
 raw-opens : (ρ : Rules) (f : Form) (b q : List ℕ) → all isPrivate b ≡ true → rawHtml ρ 0 (byte "<" ∷ inside f b q) ≡ takes q 0
@@ -34,6 +36,52 @@ inline-opens ρ f b q h = rw (raw-opens ρ f b q h) (either ρ.t2)
     either : (t2 : Bool) → choose t2 (λ _. takes q 0) (λ _. takes q 0) ≡ takes q 0
     either true = refl
     either false = refl
+
+-- what begins with no `<` is none
+raw-none : (ρ : Rules) (x : ℕ) (s : List ℕ) → eqb x (byte "<") ≡ false → rawHtml ρ 0 (x ∷ s) ≡ lacks 0
+unfolding rawHtml htmlTag openTag closingTag instruction declaration
+raw-none ρ x s e = rw (comment-is (x ∷ s), e)
+
+pub not-open : (ρ : Rules) (x : ℕ) (s : List ℕ) → eqb x (byte "<") ≡ false → readInline ρ 0 (x ∷ s) ≡ lacks 0
+unfolding readInline
+not-open ρ x s e = rw (raw-none ρ x s e) (either ρ.t2)
+  where
+    either : (t2 : Bool) → choose t2 (λ _. lacks 0) (λ _. lacks 0) ≡ lacks 0
+    either true = refl
+    either false = refl
+
+-- nor is what is not tried
+pub not-tried : (ρ : Rules) (odd : Bool) (x : ℕ) (s : List ℕ) → eqb x (byte "<") ≡ false → tried ρ odd (x ∷ s) ≡ lacks 0
+not-tried ρ true x s e = refl
+not-tried ρ false x s e = not-open ρ x s e
+
+-- a body with its opening and closer, but for the first `<` and the last `>`
+abbrev pub short : Form → List ℕ
+short Comment = bytes "--"
+short Instruction = bytes "?"
+short (Declaration l h) = []
+short Cdata = bytes "]]"
+
+abbrev pub interior : Form → List ℕ → List ℕ
+interior f b = rest f ++ (b ++ short f)
+
+pub inside-is : (f : Form) (b q : List ℕ) → inside f b q ≡ interior f b ++ (byte ">" ∷ q)
+inside-is Comment b q = simp append_assoc
+inside-is Instruction b q = simp append_assoc
+inside-is (Declaration l h) b q = simp append_assoc
+inside-is Cdata b q = simp append_assoc
+
+all-two : (g : ℕ → Bool) (a b : List ℕ) → all g a ≡ true → all g b ≡ true → all g (a ++ b) ≡ true
+unfolding all
+all-two g [] b h k = k
+all-two g (x ∷ xs) b h k = rw (and-left (g x) (all g xs) h) (all-two g xs b (and-right (g x) (all g xs) h) k)
+
+pub interior-closed : (f : Form) (b : List ℕ) → all isPrivate b ≡ true → all (other (byte "<")) (interior f b) ≡ true
+unfolding all
+interior-closed Comment b h = all-two (other (byte "<")) b (bytes "--") (private-other (byte "<") refl b h) refl
+interior-closed Instruction b h = all-two (other (byte "<")) b (bytes "?") (private-other (byte "<") refl b h) refl
+interior-closed (Declaration l e) b h = rw (excluded isLetter (byte "<") l refl e) (all-two (other (byte "<")) b [] (private-other (byte "<") refl b h) refl)
+interior-closed Cdata b h = all-two (other (byte "<")) b (bytes "]]") (private-other (byte "<") refl b h) refl
 
 -- ---- the kind of block
 abbrev pub kindOfForm : Form → ℕ

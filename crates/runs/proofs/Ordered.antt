@@ -16,13 +16,13 @@ use Rattle.lexical.specs.Name.{isRawName}
 use Rattle.lexical.specs.Line.{isBlank}
 use Rattle.lexical.proofs.Cases.{clash, and-no}
 use Rattle.rules.specs.Search.{choose}
-use Rattle.rules.specs.Inline.{Read, takes, lacks, readInline}
+use Rattle.rules.specs.Inline.{Read, takes, lacks}
 use Rattle.rules.specs.Tag.{openTag, closingTag}
 use Rattle.rules.specs.Lines.{Line, line, linesOf}
 use Rattle.rules.specs.Block.{kindAt, kindOf, startsRaw, startsBasic, startsComplete, extentOf, stopAfter}
-use Rattle.rules.specs.Withhold.{Mark, blockFirst, marks, goesOn, Piece, piece, inline, byRead, inlinePieces, linePieces, pieces, isWithheld, outside}
+use Rattle.rules.specs.Withhold.{Mark, blockFirst, marks, goesOn, Piece, piece, inline, byRead, oddBehind, tried, inlinePieces, linePieces, pieces, isWithheld, outside}
 use Rattle.rules.specs.declared.Rules.{Rules}
-use Rattle.runs.proofs.Less.{ReadMost, read-most}
+use Rattle.runs.proofs.Less.{ReadMost, tried-most}
 use Rattle.rules.proofs.LineLaws.{sizes, lines-size, stopFrom, stop-from, stop-is}
 use Rattle.runs.proofs.Covered.{extent-some}
 
@@ -58,21 +58,21 @@ appended (none h) q = widen h (omega arith) q
 appended (one-more a b o) q = one-more a b (appended o q)
 
 -- ---- the pieces of a paragraph
-inline-ordered : (ρ : Rules) (n i : ℕ) (s : List ℕ) → Ordered i (i + length s) (inlinePieces ρ n i s)
+inline-ordered : (ρ : Rules) (n i : ℕ) (odd : Bool) (s : List ℕ) → Ordered i (i + length s) (inlinePieces ρ n i odd s)
 unfolding inlinePieces
-inline-ordered ρ zero i s = let h : i ≤ i + length s = omega arith in none h
-inline-ordered ρ (suc n) i [] = let h : i ≤ i + 0 = omega arith in none h
-inline-ordered ρ (suc n) i (x ∷ s) = by-read (λ k t. inline-ordered ρ n k t) (readInline ρ 0 (x ∷ s)) (read-most ρ x s)
+inline-ordered ρ zero i odd s = let h : i ≤ i + length s = omega arith in none h
+inline-ordered ρ (suc n) i odd [] = let h : i ≤ i + 0 = omega arith in none h
+inline-ordered ρ (suc n) i odd (x ∷ s) = by-read (λ k o t. inline-ordered ρ n k o t) (tried ρ odd (x ∷ s)) (tried-most ρ odd x s)
   where
-    by-read : ((k : ℕ) (t : List ℕ) → Ordered k (k + length t) (inlinePieces ρ n k t)) → (r : Read) → ReadMost s r
-        → Ordered i (i + length (x ∷ s)) (byRead r (λ _. inlinePieces ρ n (suc i) s) (λ t. piece i (i + (length (x ∷ s) - length t)) inline ∷ inlinePieces ρ n (i + (length (x ∷ s) - length t)) t))
+    by-read : ((k : ℕ) (o : Bool) (t : List ℕ) → Ordered k (k + length t) (inlinePieces ρ n k o t)) → (r : Read) → ReadMost s r
+        → Ordered i (i + length (x ∷ s)) (byRead r (λ _. inlinePieces ρ n (suc i) (oddBehind odd x) s) (λ t. piece i (i + (length (x ∷ s) - length t)) inline ∷ inlinePieces ρ n (i + (length (x ∷ s) - length t)) false t))
     by-read ih (takes t k) h =
         let j = i + (length (x ∷ s) - length t) in
         let a : i ≤ i = omega arith in
         let b : i < j = omega arith in
-        let o : Ordered j (i + length (x ∷ s)) (inlinePieces ρ n j t) = widen (omega arith) (omega arith) (ih j t) in
+        let o : Ordered j (i + length (x ∷ s)) (inlinePieces ρ n j false t) = widen (omega arith) (omega arith) (ih j false t) in
         one-more a b o
-    by-read ih (lacks k) h = widen (omega arith) (omega arith) (ih (suc i) s)
+    by-read ih (lacks k) h = widen (omega arith) (omega arith) (ih (suc i) (oddBehind odd x) s)
 
 -- ---- blocks
 -- a line that opens a block has a byte
@@ -125,7 +125,7 @@ module _ (ρ : Rules) where
       let size = length-append l.content text in
       choose-claim paragraph i i _ _ (l ∷ ls)
       (λ _. widen (omega (arith, length-append l.lead (l.content ++ text))) (omega arith) (lines-ordered ls zero true end))
-      (λ _. appended {mid = end + length text} (widen (omega arith) (omega arith) (inline-ordered ρ (length (l.content ++ text)) begin (l.content ++ text))) (widen (omega arith) (omega arith) (lines-ordered ls zero true end)))))
+      (λ _. appended {mid = end + length text} (widen (omega arith) (omega arith) (inline-ordered ρ (length (l.content ++ text)) begin false (l.content ++ text))) (widen (omega arith) (omega arith) (lines-ordered ls zero true end)))))
       (λ h. block-first l ls i (kindOf ρ l) (opens-some ρ l.flag l.lead l.content h) (lines-ordered ls ((extentOf ρ (kindOf ρ l) l ls).lines - 1) false end))
 
 -- ---- the whole bulletin

@@ -17,7 +17,7 @@ use Rattle.rules.specs.Search.{choose, begins, Left, left, nothing, throughFirst
 use Rattle.rules.specs.Inline.{lacks, prefix, carrying, keeping, rawHtml, readInline}
 use Rattle.rules.specs.declared.Rules.{Rules}
 use Rattle.rules.proofs.Comment.{begins-is, comment-is}
-use Rattle.html.proofs.TextMeans.{not-opened, comment-tag, declaration-tag, instruction-tag}
+use Rattle.html.proofs.TextMeans.{comment-tag, declaration-tag, instruction-tag}
 use Rattle.walk.specs.Closer.{isDeclaration, formOf, isAhead, without, closerOf, allAhead, Known}
 use Rattle.walk.specs.declared.closers.Form.{Form}
 use Rattle.walk.specs.declared.closers.Form.TheVariants.{Comment, Instruction, Declaration, Cdata, Other}
@@ -134,10 +134,6 @@ module _ (ρ : Rules) where
   declaration-read l h t =
       let e = declaration-tag ρ 0 l t (excluded isLetter (byte "-") l refl h) (excluded isLetter (byte "[") l refl h) in
       read-as (bytes "<!" ++ (l ∷ t)) (throughFirst (bytes ">") t) (e ∙ ap (λ b. carrying 0 (choose b (λ _. throughFirst (bytes ">") t) (λ _. nothing))) h)
-
-  -- what begins with no `<` is none
-  pub not-open : (x : ℕ) (s : List ℕ) → eqb x (byte "<") ≡ false → readInline ρ 0 (x ∷ s) ≡ lacks 0
-  not-open x s e = read-as (x ∷ s) nothing (not-opened ρ 0 x s e)
 
   -- an opening whose closer is known to be missing finds none
   missing : (c : Closers) {s : List ℕ} {f : Form} → Opening s f → Known c s → isAhead c f ≡ false → readInline ρ 0 s ≡ lacks 0

@@ -112,7 +112,7 @@ module _ (ρ : Rules) where
       (split (eqb k 0)
       (λ a. split (isBlank c)
       (λ b. simp (a, b) (ap (λ t. linePieces ρ (t + length c) (marks ρ 0 false ls) ls) h))
-      (λ b. simp (a, b) (ap (λ t. inlinePieces ρ (length (c ++ goesOn (marks ρ 0 true ls) ls)) t (c ++ goesOn (marks ρ 0 true ls) ls) ++ linePieces ρ (t + length c) (marks ρ 0 true ls) ls) h)))
+      (λ b. simp (a, b) (ap (λ t. inlinePieces ρ (length (c ++ goesOn (marks ρ 0 true ls) ls)) t false (c ++ goesOn (marks ρ 0 true ls) ls) ++ linePieces ρ (t + length c) (marks ρ 0 true ls) ls) h)))
       (λ a. simp a
       (ap (λ t. piece (i + length e) t (block k x.closed) ∷ linePieces ρ (i + length e + length c) (marks ρ (x.lines - 1) false ls) ls) (stop-led (i + length e) x.lines f e c ls)
       ∙ ap (λ t. piece t (stopAfter t x.lines (line f [] c ∷ ls)) (block k x.closed) ∷ linePieces ρ (t + length c) (marks ρ (x.lines - 1) false ls) ls) h)))

@@ -1,3 +1,4 @@
+pub mod Escapes
 pub mod Begins
 pub mod Forms
 pub mod Rest

@@ -18,12 +18,12 @@ use Rattle.lexical.proofs.Suffix.{suffix-next, drop-take, parts}
 use Rattle.lexical.proofs.Ending.{ending-out}
 use Rattle.rules.specs.Lines.{Line, line}
 use Rattle.rules.specs.Block.{kindOf}
-use Rattle.rules.specs.Withhold.{Piece, marks, goesOn, inlinePieces, linePieces}
+use Rattle.rules.specs.Withhold.{Piece, marks, goesOn, oddBehind, inlinePieces, linePieces}
 use Rattle.rules.specs.declared.Rules.{Rules}
 use Rattle.rules.proofs.Cut.{content-length, lineFrom, lineTo, to-within, blank-apart}
 use Rattle.rules.proofs.LineLaws.{contentFrom, leadAt}
-use Rattle.walk.specs.Remaining.{isPlain, lineAt, endsParagraph, fromLine, fromIndex, ParagraphEnd}
-use Rattle.walk.proofs.Ahead.{not-open}
+use Rattle.runs.proofs.Paragraph.{past-other}
+use Rattle.walk.specs.Remaining.{isPlain, lineAt, endsParagraph, fromLine, oddAfter, fromIndex, ParagraphEnd}
 use Rattle.walk.proofs.FromLine.{ending-there, line-ended, line-within, linesBehind, ledLine, led-to, first-numbered, next-numbered, no-lines, read-to, piecesBehind, same-kind, no-more, behind-line}
 
 -- ---- bytes without `<`
@@ -55,15 +55,31 @@ plain-length (x ∷ s) h =
     split (eqb x (byte "<")) (λ a. let k = simp a at h in absurd (k (eqb-true x (byte "<") a)))
     (λ a. split (isLineEndingByte x) (λ e. simp (a, e)) (λ e. let k = simp (a, e) at h in simp (a, e) (ap suc (plain-length s k))))
 
+-- ---- runs of backslashes
+-- a line ending breaks a run
+lead-breaks : (s : List ℕ) → 0 < lineEnding s → (odd : Bool) → oddAfter odd (take (lineEnding s) s) ≡ false
+unfolding lineEnding oddAfter
+lead-breaks [] l odd = absurd (omega arith)
+lead-breaks (x ∷ []) l odd =
+    split (eqb x (byte "\n")) (λ h. rw (eqb-true x (byte "\n") h))
+    (λ h. split (eqb x (byte "\r")) (λ r. rw (eqb-true x (byte "\r") r)) (λ r. let z = simp (h, r) at l in absurd (omega (arith, z))))
+lead-breaks (x ∷ y ∷ s) l odd =
+    split (eqb x (byte "\n")) (λ h. rw (eqb-true x (byte "\n") h))
+    (λ h. split (eqb x (byte "\r"))
+    (λ r. rw (eqb-true x (byte "\r") r) (split (eqb y (byte "\n")) (λ k. rw (eqb-true y (byte "\n") k)) (λ k. simp k)))
+    (λ r. let z = simp (h, r) at l in absurd (omega (arith, z))))
+
 module _ (ρ : Rules) where
-  -- they have no pieces
-  pub skip : (i : ℕ) (u t : List ℕ) → all noOpen u ≡ true → inlinePieces ρ (length (u ++ t)) i (u ++ t) ≡ inlinePieces ρ (length t) (i + length u) t
-  unfolding inlinePieces all
-  skip i [] t h = let z : i + 0 ≡ i = omega arith in rw z refl
-  skip i (x ∷ u) t h =
+  -- bytes without `<` have no pieces
+  pub skip : (i : ℕ) (odd : Bool) (u t : List ℕ) → all noOpen u ≡ true → inlinePieces ρ (length (u ++ t)) i odd (u ++ t) ≡ inlinePieces ρ (length t) (i + length u) (oddAfter odd u) t
+  unfolding all oddAfter
+  skip i odd [] t h = let z : i + 0 ≡ i = omega arith in rw z refl
+  skip i odd (x ∷ u) t h =
       let e : eqb x (byte "<") ≡ false = not-true (eqb x (byte "<")) (and-left (noOpen x) (all noOpen u) h) in
       let z : suc i + length u ≡ i + suc (length u) = omega arith in
-      rw (not-open ρ x (u ++ t) e) (skip (suc i) u t (and-right (noOpen x) (all noOpen u) h) ∙ ap (λ n. inlinePieces ρ (length t) n t) z)
+      past-other ρ (length (u ++ t)) i odd x (u ++ t) e
+      ∙ skip (suc i) (oddBehind odd x) u t (and-right (noOpen x) (all noOpen u) h)
+      ∙ ap (λ n. inlinePieces ρ (length t) n (oddAfter (oddBehind odd x) u) t) z
 
   -- ---- a line and the lines behind it
   module _ (e : ℕ) (l : Line) (ls : List Line) where
@@ -78,7 +94,7 @@ module _ (ρ : Rules) where
     blank-line a b = rw (a, b) refl
 
     text-line : kindOf ρ l ≡ 0 → isBlank l.content ≡ false
-        → piecesBehind ρ e (l ∷ ls) ≡ inlinePieces ρ (length text-on) (e + length l.lead) text-on ++ linePieces ρ end (marks ρ 0 true ls) ls
+        → piecesBehind ρ e (l ∷ ls) ≡ inlinePieces ρ (length text-on) (e + length l.lead) false text-on ++ linePieces ρ end (marks ρ 0 true ls) ls
     unfolding marks linePieces
     text-line a b = rw (a, b) refl
 
@@ -107,13 +123,14 @@ module _ (ρ : Rules) where
 
     -- a paragraph that goes on with the line may as well begin with it
 
-    pub begin : all noOpen l.lead ≡ true
-        → inlinePieces ρ (length (goesOn (marks ρ 0 true (l ∷ ls)) (l ∷ ls))) e (goesOn (marks ρ 0 true (l ∷ ls)) (l ∷ ls)) ++ linePieces ρ e (marks ρ 0 true (l ∷ ls)) (l ∷ ls)
+    pub begin : (odd : Bool) → all noOpen l.lead ≡ true → oddAfter odd l.lead ≡ false
+        → inlinePieces ρ (length (goesOn (marks ρ 0 true (l ∷ ls)) (l ∷ ls))) e odd (goesOn (marks ρ 0 true (l ∷ ls)) (l ∷ ls)) ++ linePieces ρ e (marks ρ 0 true (l ∷ ls)) (l ∷ ls)
         ≡ piecesBehind ρ e (l ∷ ls)
     unfolding marks goesOn linePieces inlinePieces
-    begin h =
+    begin odd h b0 =
         split (eqb (kindOf ρ l) 0)
-        (λ a. split (isBlank l.content) (λ b. simp (a, b)) (λ b. simp (a, b) (ap (λ ps. ps ++ linePieces ρ (e + length l.lead + length l.content) (marks ρ 0 true ls) ls) (skip e l.lead text-on h))))
+        (λ a. split (isBlank l.content) (λ b. simp (a, b))
+        (λ b. simp (a, b) (ap (λ ps. ps ++ linePieces ρ (e + length l.lead + length l.content) (marks ρ 0 true ls) ls) (skip e odd l.lead text-on h ∙ ap (λ o. inlinePieces ρ (length text-on) (e + length l.lead) o text-on) b0))))
         (λ a. simp a)
 
 -- ---- a line is none of a paragraph
@@ -140,8 +157,8 @@ module _ (ρ : Rules) (text flags : List ℕ) where
   abbrev pub others : ℕ → ℕ → List Piece
   others e n = linePieces ρ e (marks ρ 0 true (L e n)) (L e n)
 
-  abbrev both : ℕ → List Line → List Piece
-  both e ls = inlinePieces ρ (length (goesOn (marks ρ 0 true ls) ls)) e (goesOn (marks ρ 0 true ls) ls) ++ linePieces ρ e (marks ρ 0 true ls) ls
+  abbrev both : Bool → ℕ → List Line → List Piece
+  both odd e ls = inlinePieces ρ (length (goesOn (marks ρ 0 true ls) ls)) e odd (goesOn (marks ρ 0 true ls) ls) ++ linePieces ρ e (marks ρ 0 true ls) ls
 
   over : (e n : ℕ) → length text ≤ e → L e n ≡ []
   over e n l = no-lines text flags e n (ending-out text e l)
@@ -149,16 +166,19 @@ module _ (ρ : Rules) (text flags : List ℕ) where
   next : (e n m : ℕ) → drop m flags ≡ drop 1 (drop n flags) → lineLength (drop e text) ≡ 0 → e < length text → L e n ≡ ledLine text flags e n ∷ L (lineTo text e) m
   next e n m r h l = next-numbered text flags e n m r (ending-there text e h l)
 
-  restart : (e n : ℕ) → lineLength (drop e text) ≡ 0 → both e (L e n) ≡ fromLine ρ text flags (lineFrom text e) n
+  restart : (odd : Bool) (e n : ℕ) → lineLength (drop e text) ≡ 0 → both odd e (L e n) ≡ fromLine ρ text flags (lineFrom text e) n
   unfolding marks goesOn linePieces inlinePieces
-  restart e n h =
+  restart odd e n h =
       split (ltb e (length text))
       (λ l.
       let k = next e n (n + 1) (sym (suffix-next flags n)) h (ltb-true e (length text) l) in
-      ap (both e) k ∙ begin ρ e (ledLine text flags e n) (L (lineTo text e) (n + 1)) (lead-closed (drop e text)) ∙ ap (piecesBehind ρ e) (sym k) ∙ behind-line ρ text flags e n h)
+      ap (both odd e) k
+      ∙ begin ρ e (ledLine text flags e n) (L (lineTo text e) (n + 1)) odd (lead-closed (drop e text)) (lead-breaks (drop e text) (ending-there text e h (ltb-true e (length text) l)) odd)
+      ∙ ap (piecesBehind ρ e) (sym k)
+      ∙ behind-line ρ text flags e n h)
       (λ l.
       let o = ltb-false e (length text) l in
-      ap (both e) (over e n o) ∙ sym (no-more ρ text flags (lineFrom text e) n (omega arith)))
+      ap (both odd e) (over e n o) ∙ sym (no-more ρ text flags (lineFrom text e) n (omega arith)))
 
   -- ---- the first line
   module _ (i n m : ℕ) (r : drop m flags ≡ drop 1 (drop n flags)) (none : kindOf ρ (lineAt text flags i n) ≡ 0) where
@@ -179,15 +199,15 @@ module _ (ρ : Rules) (text flags : List ℕ) where
         ∙ ap (λ t. piecesBehind ρ t (L E m)) content-end
         ∙ behind-line ρ text flags E m (line-ended text i)
 
-    pub text-first : isBlank c ≡ false → fromLine ρ text flags i n ≡ inlinePieces ρ (length (c ++ onward E m)) i (c ++ onward E m) ++ others E m
+    pub text-first : isBlank c ≡ false → fromLine ρ text flags i n ≡ inlinePieces ρ (length (c ++ onward E m)) i false (c ++ onward E m) ++ others E m
     unfolding fromLine
     text-first b =
         let z : i + 0 ≡ i = omega arith in
         let P = c ++ onward E m in
         ap (piecesBehind ρ i) (first-numbered text flags i n m r)
         ∙ text-line ρ i (lineAt text flags i n) (L E m) none b
-        ∙ ap (λ t. inlinePieces ρ (length P) t P ++ linePieces ρ (i + 0 + length c) (marks ρ 0 true (L E m)) (L E m)) z
-        ∙ ap (λ t. inlinePieces ρ (length P) i P ++ linePieces ρ t (marks ρ 0 true (L E m)) (L E m)) content-end
+        ∙ ap (λ t. inlinePieces ρ (length P) t false P ++ linePieces ρ (i + 0 + length c) (marks ρ 0 true (L E m)) (L E m)) z
+        ∙ ap (λ t. inlinePieces ρ (length P) i false P ++ linePieces ρ t (marks ρ 0 true (L E m)) (L E m)) content-end
 
     -- a line without `<` has no pieces
     pub plain-line : (at : ℕ) → at ≡ i + run isPlain (drop i text) → (first (drop at text) ≡ byte "<" → ⊥)
@@ -201,9 +221,9 @@ module _ (ρ : Rules) (text flags : List ℕ) where
         split (isBlank c) (λ b. blank-first b)
         (λ b.
         text-first b
-        ∙ ap (λ ps. ps ++ others E m) (skip ρ i c (onward E m) closed)
-        ∙ ap (λ t. inlinePieces ρ (length (onward E m)) t (onward E m) ++ others E m) e
-        ∙ restart E m (line-ended text i))
+        ∙ ap (λ ps. ps ++ others E m) (skip ρ i false c (onward E m) closed)
+        ∙ ap (λ t. inlinePieces ρ (length (onward E m)) t (oddAfter false c) (onward E m) ++ others E m) e
+        ∙ restart (oddAfter false c) E m (line-ended text i))
         ∙ ap (λ t. fromLine ρ text flags (lineFrom text t) m) ends
 
   -- ---- the lines of a paragraph
@@ -297,7 +317,7 @@ module _ (ρ : Rules) (text flags : List ℕ) where
         → fromLine ρ text flags i k ≡ fromIndex ρ (take stop text) i ++ fromLine ρ text flags (lineFrom text stop) m
     whole none b e o =
         text-first i k n r none b
-        ∙ ap (λ t. inlinePieces ρ (length t) i t ++ others first-end n) (whole-text e)
+        ∙ ap (λ t. inlinePieces ρ (length t) i false t ++ others first-end n) (whole-text e)
         ∙ ap (λ ps. fromIndex ρ (take stop text) i ++ ps) (along.others-are ∙ o)
 
     -- it ends before a line that is none of it, or with the text

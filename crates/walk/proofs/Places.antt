@@ -2,13 +2,13 @@
 use mathlib.Core.Path.{◌≡◌, refl, sym, ◌∙◌, ap, subst}
 use mathlib.Core.Bool.{Bool, true, false}
 use mathlib.Core.List.{List, [], ◌∷◌, ◌++◌}
-use Prim.Native.Nat.{ℕ, ◌+◌, ◌-◌, ◌<◌}
+use Prim.Native.Nat.{ℕ, zero, suc, ◌+◌, ◌-◌, ◌<◌}
 use native.Mathlib.Omega.{arith}
 use lib.Dec.{eqb, ltb}
 use lib.ListN.{length, take, drop}
 use lib.Seq.{drop-drop, length-take-le, take-take}
 use borrow.Author.Tests.{eqb-true, eq-eqb, ltb-true, ltb-false}
-use Rattle.lexical.specs.Text.{byte, first, run}
+use Rattle.lexical.specs.Text.{byte, first, pick, run}
 use Rattle.lexical.specs.Byte.{isLineEndingByte, isSpaceOrTab}
 use Rattle.lexical.specs.Name.{all}
 use Rattle.lexical.specs.Line.{lineLength, isBlank}
@@ -19,14 +19,19 @@ use Rattle.rules.specs.Withhold.{Piece, Which, piece, inline, inlinePieces}
 use Rattle.rules.specs.declared.Rules.{Rules}
 use Rattle.rules.proofs.Cut.{lineFrom}
 use Rattle.walk.specs.Closer.{Known, allAhead}
-use Rattle.walk.specs.Remaining.{isPlain, lineAt, fromLine, fromIndex, ParagraphEnd, Onward, atLine, remaining, Valid, isBlock, Leads, Same}
+use Rattle.walk.specs.Remaining.{isPlain, lineAt, fromLine, oddAfter, fromIndex, ParagraphEnd, Onward, atLine, remaining, Valid, isBlock, Leads, Same}
 use Rattle.walk.specs.declared.closers.Closers.{Closers}
 use Rattle.walk.specs.declared.paragraph.End.{End}
 use Rattle.walk.specs.declared.pieces.Cursor.{Cursor}
 use Rattle.walk.proofs.Ahead.{known-all}
 use Rattle.walk.proofs.FromLine.{ending-there, line-ended}
 use Rattle.walk.proofs.Paragraphs.{noOpen, plain-closed, plain-length, plain-line, blank-content}
-use Rattle.walk.proofs.InlineSteps.{skipped}
+use Rattle.walk.proofs.InlineSteps.{skipped-untried}
+
+first-take : (n : ℕ) (s : List ℕ) → 0 < n → first (take n s) ≡ first s
+first-take zero s l = absurd (omega arith)
+first-take (suc n) [] l = refl
+first-take (suc n) (x ∷ s) l = refl
 
 -- ---- the first `<` of a line
 open-some : (s : List ℕ) → first (drop (run isPlain s) s) ≡ byte "<" → run isPlain s < lineLength s
@@ -110,45 +115,48 @@ module _ (ρ : Rules) (text flags : List ℕ) where
       open-within : o < length front
       open-within = omega (arith, front-length, is, open-some s opens, end.from)
 
-      from-open : fromIndex ρ front c.next ≡ fromIndex ρ front o
-      from-open =
-          let q : o - c.next ≡ run isPlain s = omega (arith, is) in
-          let part : take (o - c.next) (drop c.next front) ≡ take (run isPlain s) s =
-          ap (λ t. take (o - c.next) (drop c.next t)) front-is
-          ∙ ap (take (o - c.next)) (drop-take c.next e.stop text)
-          ∙ take-take (o - c.next) (e.stop - c.next) s (omega (arith, open-within, front-length))
-          ∙ ap (λ n. take n s) q in
-          skipped ρ front c.next o (ap (all noOpen) part ∙ plain-closed s) (omega (arith, is)) (omega (arith, open-within))
+      module _ (from : ℕ) (skips : from ≡ o + pick (oddAfter false (take (o - c.next) (drop c.next text))) 1 0) where
+        from-open : fromIndex ρ front c.next ≡ fromIndex ρ front from
+        from-open =
+            let q : o - c.next ≡ run isPlain s = omega (arith, is) in
+            let part : take (o - c.next) (drop c.next front) ≡ take (o - c.next) s =
+            ap (λ t. take (o - c.next) (drop c.next t)) front-is
+            ∙ ap (take (o - c.next)) (drop-take c.next e.stop text)
+            ∙ take-take (o - c.next) (e.stop - c.next) s (omega (arith, open-within, front-length)) in
+            let there : first (drop o front) ≡ byte "<" = ap (λ t. first (drop o t)) front-is ∙ ap first (drop-take o e.stop text) ∙ first-take (e.stop - o) (drop o text) (omega (arith, open-within, front-length)) ∙ h in
+            skipped-untried ρ front c.next o (ap (all noOpen) (part ∙ ap (λ n. take n s) q) ∙ plain-closed s) (omega (arith, is)) open-within there
+            ∙ ap (λ u. fromIndex ρ front (o + pick (oddAfter false u) 1 0)) part
+            ∙ ap (fromIndex ρ front) (sym skips)
 
-      pieces-from : fromLine ρ text flags c.next c.line ≡ fromIndex ρ front o ++ fromLine ρ text flags (lineFrom text e.stop) e.line
-      pieces-from =
-          end.pieces none (blank-content s ∙ open-text s opens)
-          ∙ ap (λ t. fromIndex ρ t c.next ++ fromLine ρ text flags (lineFrom text e.stop) e.line) (sym front-is)
-          ∙ ap (λ ps. ps ++ fromLine ρ text flags (lineFrom text e.stop) e.line) from-open
+        pieces-from : fromLine ρ text flags c.next c.line ≡ fromIndex ρ front from ++ fromLine ρ text flags (lineFrom text e.stop) e.line
+        pieces-from =
+            end.pieces none (blank-content s ∙ open-text s opens)
+            ∙ ap (λ t. fromIndex ρ t c.next ++ fromLine ρ text flags (lineFrom text e.stop) e.line) (sym front-is)
+            ∙ ap (λ ps. ps ++ fromLine ρ text flags (lineFrom text e.stop) e.line) from-open
 
-      module _ (next : ℕ) (a : next ≡ lineFrom text e.stop) where
-        pub leads-inline : (start stop : ℕ) (k : Closers) → Onward ρ front o start stop k
-            → Leads ρ text flags (fromLine ρ text flags c.next c.line) start stop false (record { index = stop; stop = e.stop; next = next; line = e.line; closers = k })
-        unfolding remaining
-        leads-inline start stop k on =
-            record {
-              which = inline;
-              is-block = refl;
-              is =
-                  pieces-from
-                  ∙ ap (λ ps. ps ++ fromLine ρ text flags (lineFrom text e.stop) e.line) on.is
-                  ∙ ap (λ t. piece start stop inline ∷ (fromIndex ρ t stop ++ fromLine ρ text flags (lineFrom text e.stop) e.line)) front-is
-                  ∙ ap (λ t. piece start stop inline ∷ (fromIndex ρ (take e.stop text) stop ++ fromLine ρ text flags t e.line)) (sym a);
-              valid = record { known = subst (λ t. Known k (drop stop t)) front-is on.known };
-            }
+        module _ (next : ℕ) (a : next ≡ lineFrom text e.stop) where
+          pub leads-inline : (start stop : ℕ) (k : Closers) → Onward ρ front from start stop k
+              → Leads ρ text flags (fromLine ρ text flags c.next c.line) start stop false (record { index = stop; stop = e.stop; next = next; line = e.line; closers = k })
+          unfolding remaining
+          leads-inline start stop k on =
+              record {
+                which = inline;
+                is-block = refl;
+                is =
+                    pieces-from
+                    ∙ ap (λ ps. ps ++ fromLine ρ text flags (lineFrom text e.stop) e.line) on.is
+                    ∙ ap (λ t. piece start stop inline ∷ (fromIndex ρ t stop ++ fromLine ρ text flags (lineFrom text e.stop) e.line)) front-is
+                    ∙ ap (λ t. piece start stop inline ∷ (fromIndex ρ (take e.stop text) stop ++ fromLine ρ text flags t e.line)) (sym a);
+                valid = record { known = subst (λ t. Known k (drop stop t)) front-is on.known };
+              }
 
-        pub paragraph-same : (d : Cursor) → d ≡ atLine next e.line → fromIndex ρ front o ≡ [] → Same ρ text flags c d
-        paragraph-same d b none-there =
-            subst (Same ρ text flags c) (sym b)
-            (record {
-              is = pieces-from ∙ ap (λ ps. ps ++ fromLine ρ text flags (lineFrom text e.stop) e.line) none-there ∙ ap (λ t. fromLine ρ text flags t e.line) (sym a);
-              later = omega (arith, a, open-within, front-length, is);
-            })
+          pub paragraph-same : (d : Cursor) → d ≡ atLine next e.line → fromIndex ρ front from ≡ [] → Same ρ text flags c d
+          paragraph-same d b none-there =
+              subst (Same ρ text flags c) (sym b)
+              (record {
+                is = pieces-from ∙ ap (λ ps. ps ++ fromLine ρ text flags (lineFrom text e.stop) e.line) none-there ∙ ap (λ t. fromLine ρ text flags t e.line) (sym a);
+                later = omega (arith, a, open-within, front-length, is);
+              })
 
 -- the same pieces by another name
 pub leads-as : {ρ : Rules} {text flags : List ℕ} {ps qs : List Piece} {start stop : ℕ} {b : Bool} {c : Cursor} → ps ≡ qs → Leads ρ text flags qs start stop b c → Leads ρ text flags ps start stop b c

@@ -1,13 +1,13 @@
 -- The pieces that remain from a place of a bulletin on, in the order of the code. It need not be believed: of public contracts only
 -- those of `at_line` and `next_piece` cite it, and the proofs show that from the first line on they are the pieces of the rules (`from-start` in proofs/Walk.antt).
-use Rattle.std.specs.Prelude.{◌≡◌, Bool, true, false, ◌||◌, not, List, [], ◌∷◌, ◌++◌, ℕ, ◌+◌, ◌<◌, ◌≤◌, eqb, length, get_or, take, drop}
-use Rattle.lexical.specs.Text.{byte}
+use Rattle.std.specs.Prelude.{◌≡◌, Bool, true, false, ◌&&◌, ◌||◌, not, List, [], ◌∷◌, ◌++◌, ℕ, suc, ◌+◌, ◌<◌, ◌≤◌, eqb, length, get_or, take, drop}
+use Rattle.lexical.specs.Text.{byte, pick}
 use Rattle.lexical.specs.Line.{isInner, lineLength, isBlank}
 use Rattle.rules.specs.Inline.{takes, lacks, readInline}
 use Rattle.rules.specs.Lines.{Line, line, linesOf}
 use Rattle.rules.specs.Block.{kindOf}
 use Rattle.rules.specs.Scan.{Found as FoundBlock, foundBlock, blockOf}
-use Rattle.rules.specs.Withhold.{Piece, Which, piece, inline, block, marks, inlinePieces, linePieces}
+use Rattle.rules.specs.Withhold.{Piece, Which, piece, inline, block, marks, oddBehind, inlinePieces, linePieces}
 use Rattle.rules.specs.declared.Rules.{Rules}
 use Rattle.rules.proofs.Cut.{lineFrom}
 use Rattle.rules.proofs.LineLaws.{contentFrom}
@@ -47,9 +47,19 @@ pub record BlockEnd (text flags : List ℕ) (i n stop : ℕ) (e : End) : Type 0 
       → fromLine ρ text flags i n ≡ piece i stop (block b.kind b.closed) ∷ fromLine ρ text flags (lineFrom text e.stop) e.line
 
 -- ---- paragraphs
+-- whether an odd run of backslashes stands behind u; odd: whether one stands before it
+unfoldable pub oddAfter : Bool → List ℕ → Bool
+oddAfter odd [] = odd
+oddAfter odd (x ∷ u) = oddAfter (oddBehind odd x) u
+
+-- how many bytes of s stand before the first `<` that is tried; odd: whether an odd run of backslashes stands just before s
+unfoldable pub untried : Bool → List ℕ → ℕ
+untried odd [] = 0
+untried odd (x ∷ s) = pick (eqb x (byte "<") && not odd) 0 (suc (untried (oddBehind odd x) s))
+
 -- the pieces of a paragraph from an index on
 abbrev pub fromIndex : Rules → List ℕ → ℕ → List Piece
-fromIndex ρ text i = inlinePieces ρ (length (drop i text)) i (drop i text)
+fromIndex ρ text i = inlinePieces ρ (length (drop i text)) i false (drop i text)
 
 -- the end of a paragraph whose line stands at an index
 pub record ParagraphEnd (ρ : Rules) (text flags : List ℕ) (i n : ℕ) (e : End) : Type 0 where

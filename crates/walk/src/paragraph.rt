@@ -1,8 +1,9 @@
 // Paragraphs: where one ends, and its inline pieces.
-ghost use Rattle.std.specs.Prelude.{◌≡◌, not, ◌+◌, ◌<◌, ◌≤◌, eqb, length, drop};
-ghost use Rattle.lexical.specs.Text.{byte, run};
+ghost use Rattle.std.specs.Prelude.{◌≡◌, false, ◌+◌, ◌-◌, ◌<◌, ◌≤◌, length, take, drop};
+ghost use Rattle.lexical.specs.Text.{pick};
+ghost use Rattle.lexical.specs.Line.{lineLength};
 ghost use Rattle.walk.specs.Closer.{Known};
-ghost use Rattle.walk.specs.Remaining.{lineAt, endsParagraph, ParagraphEnd, Attempt, NextInline};
+ghost use Rattle.walk.specs.Remaining.{lineAt, oddAfter, untried, endsParagraph, ParagraphEnd, Attempt, NextInline};
 
 use crate::closers::{Closers, form_at, is_ahead, without};
 use flow::partial_non_lazy_continuation::next_number;
@@ -51,18 +52,20 @@ fn ends_paragraph(rules: Rules, bulletin: &[u8], flags: &[u8], index: usize, lin
     }
 }
 
-// The end of a paragraph from its line at an index on.
+// The end of a paragraph from its line at an index on; the bytes before `from` are known to be of that line.
 pub(crate) fn paragraph_end(
     rules: Rules,
     bulletin: &[u8],
     flags: &[u8],
     index: usize,
     line: usize,
+    from: usize,
 ) -> End
-    requires { index ≤ length bulletin.now }
+    requires within { index ≤ length bulletin.now }
+    requires same_line { from + lineLength (drop from bulletin.now) ≡ index + lineLength (drop index bulletin.now) }
     ensures { ParagraphEnd rules bulletin.now flags.now index line result }
 {
-    let mut stop = line_end(bulletin, index);
+    let mut stop = line_end(bulletin, from);
     let mut number = next_number(flags, line);
     while stop < bulletin.len() {
         let from = next_line(bulletin, stop);
@@ -75,15 +78,46 @@ pub(crate) fn paragraph_end(
     End { stop, line: number }
 }
 
-// The next `<` from an index on, or the end.
+// Whether an odd run of backslashes stands before an index, counted back to another.
+fn is_escaped(text: &[u8], from: usize, index: usize) -> bool
+    requires { index ≤ length text.now }
+    ensures { result ≡ oddAfter false (take (index - from) (drop from text.now)) }
+{
+    let mut odd = false;
+    let mut i = index;
+    while from < i {
+        if text[i - 1] != b'\\' {
+            return odd;
+        }
+        odd = !odd;
+        i -= 1;
+    }
+    odd
+}
+
+// Behind the first `<` of a paragraph where it is not tried, else at it.
+pub(crate) fn past_escaped(text: &[u8], from: usize, opening: usize) -> usize
+    requires { opening < length text.now }
+    ensures { result ≡ opening + pick (oddAfter false (take (opening - from) (drop from text.now))) 1 0 }
+{
+    if is_escaped(text, from, opening) {
+        return opening + 1;
+    }
+    opening
+}
+
+// The next `<` from an index on that follows no odd run of backslashes, counted back to the index; or the end.
 fn next_open(text: &[u8], index: usize) -> usize
-    ensures { result ≡ index + run (λ b. not (eqb b (byte "<"))) (drop index text.now) }
+    ensures { result ≡ index + untried false (drop index text.now) }
 {
     let mut i = index;
+    let mut odd = false;
     while i < text.len() {
-        if text[i] == b'<' {
+        let byte = text[i];
+        if (byte == b'<') & !odd {
             return i;
         }
+        odd = (byte == b'\\') & !odd;
         i += 1;
     }
     i

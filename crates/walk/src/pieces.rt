@@ -4,7 +4,7 @@ ghost use Rattle.rules.specs.Block.{kindOf};
 ghost use Rattle.walk.specs.Remaining.{lineAt, BlockEnd, atLine, Valid, Opens, fromLine, remaining, TurnTo, Goes};
 
 use crate::closers::{Closers, all_ahead};
-use crate::paragraph::{End, Inlined, next_inline, paragraph_end};
+use crate::paragraph::{End, Inlined, next_inline, paragraph_end, past_escaped};
 use flow::partial_non_lazy_continuation::next_number;
 use flow::scan::{Block, block_at};
 use lexical::byte::peek;
@@ -109,11 +109,12 @@ fn text_line(rules: Rules, bulletin: &[u8], flags: &[u8], cursor: Cursor) -> Tur
             ),
         };
     }
-    let end = paragraph_end(rules, bulletin, flags, cursor.next, cursor.line);
+    let end = paragraph_end(rules, bulletin, flags, cursor.next, cursor.line, opening);
     let next = next_line(bulletin, end.stop);
+    let from = past_escaped(bulletin, cursor.next, opening);
     let text = from_indices(bulletin, 0, end.stop);
     let closers = all_ahead();
-    match next_inline(rules, text, opening, closers) {
+    match next_inline(rules, text, from, closers) {
         Inlined::Piece {
             start,
             stop,

@@ -7,7 +7,7 @@ use borrow.Author.Rules.{rules}
 use Rattle.walk.proofs.paragraph.paragraph_end.Goals as goal
 
 pub loop-stop-init : goal.loop-stop-init
-loop-stop-init c = let a = c.args in along-first a.rules a.bulletin.now a.flags.now a.index _ _ c.requires c.line_end-stop.ensures
+loop-stop-init c = let a = c.args in along-first a.rules a.bulletin.now a.flags.now a.index _ _ c.requires.within (c.line_end-stop.ensures ∙ c.requires.same_line)
 
 pub returns-then-ends_paragraph : goal.returns-then-ends_paragraph
 returns-then-ends_paragraph c = let a = c.args in ends-before a.rules a.bulletin.now a.flags.now a.index a.line _ _ _ (next-flags a.flags.now _ _ c.next_number-number.ensures) c.loop-stop.invariant _ c.next_line-from.ensures c.loop-stop-test.true (sym c.ends_paragraph.ensures ∙ c.if-ends_paragraph.true)
