@@ -61,15 +61,25 @@ static inline size_t paragraph_stop(const reading *by, const screen_case *row, s
     return stop;
 }
 
+/* Whether an odd run of backslashes stands before an index, counted back to a start. */
+static inline int is_escaped(const uint8_t *text, size_t start, size_t index) {
+    size_t first = index;
+    while (first > start && text[first - 1] == '\\') {
+        first--;
+    }
+    return (index - first) % 2 == 1;
+}
+
 /* The inline pieces of a paragraph's text. */
 static inline void mark_paragraph(const reading *by, const uint8_t *text, size_t length, uint8_t *marks) {
-    size_t index = 0;
+    size_t start = 0, index = 0;
     while (index < length) {
         foringamo_inline piece = by->inline_scan(text, length, index, 0);
-        if (piece.found) {
+        if (piece.found && !is_escaped(text, start, index)) {
             memset(marks + index, INSIDE, piece.stop - index);
             marks[index] = COUNTS;
             index = piece.stop;
+            start = index;
         } else {
             index++;
         }
@@ -110,7 +120,7 @@ static const char *const fragments[] = {
     "title", "TextArea", "style", "xmp", "XMP", "iframe", "noembed", "NOFRAMES", "script", "plaintext",
     "<", "<", "<", "<", "<", "<", "</", "</", "</", "</", ">", ">", ">", ">", ">", "/>", "/", " ", " ", "\t", "\n", "\n", "\r\n", "\r", "\n\n",
     "<!--", "-->", "<?", "?>", "<!A", "<![CDATA[", "]]>", "<div>", "<b ", "</script>", "<![", "]]]>", "<a b=c/d>",
-    "\n<a 1>\n", "\n<pre/>\n", "a", "Z", "9", "-", "=", "\"", "'",
+    "\n<a 1>\n", "\n<pre/>\n", "\\", "\\", "\\<", "\\\\<", "a", "Z", "9", "-", "=", "\"", "'",
 };
 
 enum { FRAGMENTS = sizeof fragments / sizeof *fragments, MOST_FRAGMENTS = 30, SHORT = 10 * MOST_FRAGMENTS };

@@ -216,6 +216,17 @@ static void filter_places(void) {
     CHECK(becomes("<xmp>\n<xmp <xmp\n", "&lt;xmp>\n&lt;xmp &lt;xmp\n"));
 }
 
+/* The filter takes its inline pieces as withholding does: 02, Ask 6. In a block a backslash means nothing. */
+static void filter_backslashes(void) {
+    CHECK(stays("a \\<xmp>"));
+    CHECK(becomes("a \\\\<xmp>", "a \\\\&lt;xmp>"));
+    CHECK(stays("\\\\\\</XMP>"));
+    CHECK(becomes("a \\<xmp <xmp>", "a \\<xmp &lt;xmp>"));
+    CHECK(becomes("a \\\n<xmp>c", "a \\\n&lt;xmp>c"));
+    CHECK(becomes("<div>\\<xmp>", "<div>\\&lt;xmp>"));
+    CHECK(becomes("<div>\\\\<xmp>", "<div>\\\\&lt;xmp>"));
+}
+
 /* A case with these flags. */
 static int becomes_by(const uint8_t *flags, const char *bulletin, const char *shown) {
     screen_case row = case_of(bulletin, shown);
@@ -318,6 +329,7 @@ int main(void) {
     filter_near_names();
     filter_rows();
     filter_places();
+    filter_backslashes();
     filter_flags();
     filter_longest();
     filter_by_rule();

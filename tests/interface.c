@@ -501,6 +501,60 @@ static void showings(void) {
     }
 }
 
+/* Whether a bulletin of a front, so many backslashes and a piece is shown without the piece, or behind an odd number whole. */
+static int shows_behind(const reading *by, const char *front, const char *front_shown, int backslashes, const char *piece) {
+    char text[ROOM], shown[ROOM];
+    snprintf(text, sizeof text, "%s%.*s%s.", front, backslashes, "\\\\\\\\\\", piece);
+    snprintf(shown, sizeof shown, "%s%.*s%s.", front_shown, backslashes, "\\\\\\\\\\", backslashes % 2 == 1 ? piece : "");
+    return shows(by, text, shown);
+}
+
+/* README, What it does not know; docs/SCOPE.md, Backslash before a tag. */
+static void backslashes(const reading *by) {
+    /* Where a run begins, and what is shown of it: a paragraph's start, or a piece. */
+    static const char *const fronts[][2] = {{"", ""}, {"a ", "a "}, {"a\n\n", "a\n\n"}, {"a\r", "a\r"}, {"a\r\n", "a\r\n"}, {"a\n", "a\n"}, {"a <i>", "a "}, {"a \\x", "a \\x"}};
+    static const char *const inlines[] = {"<b>", "</b>", "<!-- x -->", "<![CDATA[x]]>", "<?x?>", "<!A x>"};
+    for (size_t front = 0; front < sizeof fronts / sizeof *fronts; front++) {
+        for (size_t piece = 0; piece < sizeof inlines / sizeof *inlines; piece++) {
+            /* Without a backslash some of them open a block at a line's start. */
+            for (int run = 1; run <= 5; run++) {
+                CHECK(shows_behind(by, fronts[front][0], fronts[front][1], run, inlines[piece]));
+            }
+        }
+    }
+    CHECK(shows(by, "a \\<b>c", "a \\<b>c"));
+    CHECK(shows(by, "a \\ <b>c", "a \\ c"));
+    CHECK(shows(by, "a \\\n<b>c", "a \\\nc"));
+    CHECK(shows(by, "a /<b>c", "a /c"));
+    CHECK(shows(by, "a \\<b <i>c", "a \\<b c"));
+
+    /* Block openings are untouched, and in a block a backslash means nothing. */
+    CHECK(shows(by, "a\\\n<div>\nx", "a\\\n"));
+    CHECK(shows(by, "<div>\\<b>\n\nx", "\n\nx"));
+    CHECK(shows(by, "\\<div>\nx", "\\<div>\nx"));
+
+    /* Bulletins that differ in a private piece: it ends in a backslash, or stands behind one in a quoted value. */
+    CHECK(shows(by, "a <!--x\\--><b>c", "a c") && shows(by, "a <!--yz--><b>c", "a c"));
+    CHECK(shows(by, "a <b c=\"\\<!--x\\-->\">d", "a d") && shows(by, "a <b c=\"\\<!--yz-->\">d", "a d"));
+}
+
+/* The longest run that a bulletin with a tag can have, and one byte less. */
+static void longest_runs(const reading *by) {
+    static uint8_t text[16000], shown[16000];
+    memset(text, '\\', sizeof text);
+    memcpy(text + 15996, "<b>x", 4);
+    for (size_t run = 15995; run <= 15996; run++) {
+        const uint8_t *bulletin = text + (15996 - run);
+        size_t length = run + 4;
+        foringamo_shown r = by->withhold(bulletin, length, zeros, 1, shown, sizeof shown);
+        if (run % 2 == 1) {
+            CHECK(is_shown(r, 0, length, 0) && memcmp(shown, bulletin, length) == 0);
+        } else {
+            CHECK(is_shown(r, 0, run + 1, 1) && memcmp(shown, bulletin, run) == 0 && shown[run] == 'x');
+        }
+    }
+}
+
 /* The places where the two readings may part: docs/SCOPE.md, The book's own reading. */
 enum { BOTH_FIVE, ONE_SEVEN, STANDARD_TAG, AT_CDATA, PLACES };
 
@@ -547,7 +601,7 @@ static void readings_part(void) {
         CHECK(good);
     }
     for (int place = 0; place < PLACES; place++) {
-        CHECK(parted[place] >= 30);
+        CHECK(parted[place] >= 20);
     }
 }
 
@@ -569,6 +623,10 @@ int main(void) {
     withhold(&standard);
     partings();
     showings();
+    backslashes(&rust);
+    backslashes(&standard);
+    longest_runs(&rust);
+    longest_runs(&standard);
     readings_part();
     return finish();
 }
