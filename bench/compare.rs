@@ -345,7 +345,7 @@ fn bulletins() -> Vec<(String, OfLength)> {
     for (what, unit) in texts {
         all.push((what.to_string(), Box::new(move |length| repeated("", unit, "", length))));
     }
-    for unit in ["<?", "<!--", "<![CDATA[", "<!a", "<a b=\"<a b='"] {
+    for unit in ["<?", "<!--", "<![CDATA[", "<!a", "<a b=\"<a b='", "\\<b>", "\\\\<b>"] {
         all.push(again(unit, "in a paragraph", "x"));
         all.push(again(unit, "at the front", ""));
     }

@@ -17,7 +17,7 @@ use Rattle.rules.specs.Private.{isPrivate, Swap, in-line, in-block, SameRuns}
 use Rattle.rules.specs.Rows.{sameInline, sameBlock}
 use Rattle.rules.specs.Computing.{computing}
 use Rattle.rules.specs.Witness.{eight, Place, inText, inBulletin, only, place, agree, each-applies, Row, body, whole, one, two, flags, consists, withheld, meets, swaps, swaps-meet}
-use Rattle.rules.specs.Counterexamples.{sameShown, sameCount, Excluded, excluded, bodies, brackets, needed, bytes-needed, bare, loose, unheld, enclosing-needed, counted, count-tells}
+use Rattle.rules.specs.Counterexamples.{sameShown, sameCount, Excluded, excluded, bodies, brackets, needed, bytes-needed, bare, loose, unheld, enclosing-needed, escaped, withholding-needed, counted, count-tells}
 use Rattle.rules.specs.declared.Rules.{Rules}
 use Rattle.rules.proofs.Same.{told-apart, inline-self, block-self}
 
@@ -85,6 +85,9 @@ bytes-differ = each _ (needed crate) (needed-differ crate) (brackets ++ bodies) 
 
 pub loose-differ : Each (Differ crate) (bare ∷ loose)
 loose-differ = each (Differ crate) (unheld crate) (unheld-differ crate) (bare ∷ loose) (and-left (all (unheld crate) (bare ∷ loose)) _ enclosing-needed)
+
+pub escaped-differs : Differ crate escaped
+escaped-differs = unheld-differ crate escaped (and-left (unheld crate escaped) (unheld standard escaped) withholding-needed)
 
 -- the count alone
 pub count-differs : Differ crate counted

@@ -1,5 +1,5 @@
--- The premises of demand 3 are needed: for each byte that is not private, two bulletins that differ in it and do not show alike; and lines that run one does
--- not withhold. Each table is proved by one computed fact.
+-- The premises of demand 3 are needed: for each byte that is not private, two bulletins that differ in it and do not show alike; and lines and a body that run
+-- one does not withhold. Each table is proved by one computed fact.
 use Rattle.std.specs.Prelude.{ℕ, suc, ◌≡◌, refl, Bool, true, ◌&&◌, ◌||◌, not, List, [], ◌∷◌, ◌++◌, eqb, length}
 use Rattle.lexical.specs.Text.{byte, bytes}
 use Rattle.lexical.specs.Name.{all, sameBytes}
@@ -83,6 +83,14 @@ unheld ρ r = not (sameShown ρ r) && (not (withheld ρ r) && (consists isPrivat
 pub enclosing-needed : (all (unheld crate) (bare ∷ loose) && (all (unheld standard) (bare ∷ loose) && all (heldAs crate) loose)) ≡ true
 unfolding computing loose
 enclosing-needed = refl
+
+-- 02, Ask 6: a body whose opening follows an odd run of backslashes, and lies in no other piece, is shown; all other premises are met
+abbrev pub escaped : Row
+escaped = body 0 (bytes "a \\") comment (bytes "x") (bytes "y") []
+
+pub withholding-needed : (unheld crate escaped && unheld standard escaped) ≡ true
+unfolding computing
+withholding-needed = refl
 
 -- one piece becomes two: the bytes shown are the same, the count is not
 abbrev pub counted : Row
