@@ -47,7 +47,7 @@
 #include <stddef.h>
 #include <stdint.h>
 
-#define FORINGAMO_VERSION "0.3.3"
+#define FORINGAMO_VERSION "0.3.4"
 
 #ifdef __cplusplus
 extern "C" {
@@ -142,7 +142,10 @@ foringamo_trace foringamo_inline_trace(const uint8_t *text, size_t text_len, siz
 /* The record of a number, counted from 0. The first bad record on the way decides; later ones are not looked at. Refusals 8, 9. */
 foringamo_record foringamo_read_trace(const uint8_t *trace, size_t trace_len, size_t number);
 
-/* Writes the bulletin without its raw HTML. Room for bulletin_len bytes always suffices. Refusals 1, 2, 3, 7. */
+/*
+ * Writes the bulletin without its raw HTML. In a paragraph a `<` behind an odd number of backslashes in a row is text, in both readings and for the filter. Room
+ * for bulletin_len bytes always suffices. Refusals 1, 2, 3, 7.
+ */
 foringamo_shown foringamo_withhold(const uint8_t *bulletin, size_t bulletin_len, const uint8_t *flags, size_t flags_len, uint8_t *out, size_t out_len);
 
 /* The same by the standard, over its own blocks and inline pieces. Refusals 1, 2, 3, 7. */

@@ -507,7 +507,8 @@ pub fn read_trace(trace: &[u8], number: usize) -> Result<Record, Refusal> {
     unless_refused(got.refusal, || record(got))
 }
 
-/// Writes the bulletin without its raw HTML. Room for the bulletin's length always suffices. Refusals 1, 2, 3, 7.
+/// Writes the bulletin without its raw HTML. In a paragraph a `<` behind an odd number of backslashes in a row is text. Room for the bulletin's length always
+/// suffices. Refusals 1, 2, 3, 7.
 ///
 /// ```
 /// use foringamo::{withhold, Shown};
@@ -515,6 +516,8 @@ pub fn read_trace(trace: &[u8], number: usize) -> Result<Record, Refusal> {
 /// let mut out = [0; 10];
 /// assert_eq!(withhold(b"a<b>c</b>", &[0], &mut out), Ok(Shown { length: 2, pieces: 2 }));
 /// assert_eq!(&out[..2], b"ac");
+/// assert_eq!(withhold(br"a\<b>c", &[0], &mut out), Ok(Shown { length: 6, pieces: 0 }));
+/// assert_eq!(withhold(br"a\\<b>c", &[0], &mut out), Ok(Shown { length: 4, pieces: 1 }));
 /// ```
 pub fn withhold(bulletin: &[u8], flags: &[u8], out: &mut [u8]) -> Result<Shown, Refusal> {
     let got = unsafe {
