@@ -1,82 +1,54 @@
-// Cases in text: numbers in decimal digits, and a text in which `\n`, `\r`, `\t` and `\\` are LF, CR, tab and backslash.
-ghost use Rattle.std.specs.Prelude.{◌≤◌, ◌<◌, length};
+// Cases in text: fields behind a space each, numbers in decimal digits, and a text in which `\n`, `\r`, `\t` and `\\` are LF, CR, tab and backslash.
+ghost use Rattle.std.specs.Prelude.{◌≡◌, ◌+◌, ◌≤◌, ◌∷◌, ◌++◌, length, IfOk};
 
 use crate::hex::{byte_at, digit};
-use lexical::byte::is_digit;
+use std::alloc::{AllocError, Global};
 
-// How many flags a case has at most.
-pub const FLAGS: usize = 64;
-
-// What the digit at an index stands for.
-fn digit_at(digits: &[u8], index: usize) -> usize
-    ensures { result < 16 }
-{
-    digit(byte_at(digits, index)) as usize
+// What stands before the first space of a line, and what behind it.
+pub fn cut(line: &[u8]) -> (&[u8], &[u8]) {
+    match line.iter().position(|b| *b == b' ') {
+        Some(space) => (&line[..space], &line[space + 1..]),
+        None => (line, &[]),
+    }
 }
 
-// The index of a case: three digits behind a letter and a space.
-pub fn index_of(line: &[u8]) -> usize {
-    digit_at(line, 2) * 100 + digit_at(line, 3) * 10 + digit_at(line, 4)
-}
-
-// What the five digits at the front stand for.
+// The number of decimal digits, or 0.
 pub fn number(digits: &[u8]) -> usize {
-    digit_at(digits, 0) * 10000
-        + digit_at(digits, 1) * 1000
-        + digit_at(digits, 2) * 100
-        + digit_at(digits, 3) * 10
-        + digit_at(digits, 4)
+    let Ok(text) = str::from_utf8(digits) else {
+        return 0;
+    };
+    text.parse().unwrap_or(0)
 }
 
-// Writes the flags that a text begins with, one digit each, and gives their number.
-pub fn flags_of(digits: &[u8], out: &mut [u8]) -> usize
-    ensures { result ≤ length out.old }
+// The flags, one digit each.
+pub fn flags(alloc: Global, digits: &[u8]) -> Result<Vec<u8>, AllocError>
+    ensures { IfOk result (λ flags. length flags.items ≡ length digits.now) }
 {
-    let mut n: usize = 0;
-    while n < out.len() {
-        let b = byte_at(digits, n);
-        if !is_digit(b) {
-            return n;
-        }
-        out[n] = digit(b);
-        n += 1;
-    }
-    n
+    digits.iter().map(|b| digit(*b)).collect(alloc)
 }
 
-// How many bytes of a case one byte of its text takes: two where a backslash leads.
-fn width(b: u8) -> usize
-    ensures lower_bound { 1 ≤ result }
-    ensures upper_bound { result ≤ 2 }
-{
-    if b == b'\\' { 2 } else { 1 }
-}
-
-// The byte of the text, from a byte of the case and the one behind it.
-fn meant(b: u8, next: u8) -> u8 {
-    if b != b'\\' {
-        return b;
-    }
-    match next {
+// The byte that a letter behind a backslash means: itself but for three.
+fn meant(letter: u8) -> u8 {
+    match letter {
         b'n' => b'\n',
         b'r' => b'\r',
         b't' => b'\t',
-        _ => b,
+        _ => b'\\',
     }
 }
 
-// Writes the text of a case, from an index on, and gives its length.
-pub fn unescape(line: &[u8], from: usize, out: &mut [u8]) -> usize {
-    let mut i: usize = from;
-    let mut n: usize = 0;
-    while i < line.len() {
-        if n >= out.len() {
-            return n;
+// The text of a case.
+pub fn unescape(alloc: Global, escaped: &[u8]) -> Result<Vec<u8>, AllocError> {
+    let mut text = Vec::new(alloc);
+    let mut rest = escaped;
+    while let Some((first, behind)) = rest.split_first() {
+        rest = behind;
+        if *first == b'\\' {
+            text.push(meant(byte_at(rest, 0)))?;
+            rest = rest.get(1..).unwrap_or(&[]);
+        } else {
+            text.push(*first)?;
         }
-        let b = line[i];
-        out[n] = meant(b, byte_at(line, i + 1));
-        n += 1;
-        i += width(b);
     }
-    n
+    Ok(text)
 }

@@ -1,5 +1,7 @@
 // Test cases: each is a line of standard input, and its answer is a line of standard output. run.rt says what each kind of case is.
 #![tactic(auto)]
+
+mod case;
 mod escape;
 mod hex;
 mod lines;

@@ -1,17 +1,12 @@
 // Cases of the reader and of the lent step.
+use crate::case::Case;
 use crate::scans::show_inline;
-use crate::show::{next, yes_or_no};
+use crate::show::yes_or_no;
 use flow::html_flow::Kind;
-use reader::slice::{Turn, read_at};
-use rules::{Rules, crate_rules, standard_rules};
-
-// All eight changes, or none.
-fn reading(changed: bool) -> Rules {
-    if changed {
-        return crate_rules();
-    }
-    standard_rules()
-}
+use reader::slice::read_at;
+use rules::Rules;
+use std::io;
+use std::io::Write;
 
 // The kind of a number.
 fn kind(number: u8) -> Kind {
@@ -26,44 +21,39 @@ fn kind(number: u8) -> Kind {
     }
 }
 
-fn show_turn(turn: Turn) {
-    let answer = turn.answer;
-    show_inline(answer);
-    next(turn.index as u64);
-    next(turn.byte as u64);
-}
-
 // A reader at an index scans and moves on: the answer, the index that it is moved to and the byte there, 256 past the end.
-pub fn turn(text: &[u8], index: usize, carry: u8) {
-    show_turn(read_at(text, index, carry));
+pub fn turn(out: &mut impl Write, case: &Case) -> io::Result<()> {
+    let turn = read_at(&case.text, case.index, case.digit());
+    show_inline(out, turn.answer)?;
+    write!(out, " {} {}", turn.index, turn.byte)
 }
 
-// A reader goes over the text: the index behind each piece that it finds, with carry 0.
-pub fn pieces(text: &[u8], from: usize) {
-    let mut i = from;
-    io::write_all(1, b"pieces");
-    while i < text.len() {
-        let stop = read_at(text, i, 0).index;
-        if stop > i {
-            next(stop as u64);
-            i = stop;
+// A reader goes over the text from the index on: the index behind each piece that it finds, with carry 0.
+pub fn pieces(out: &mut impl Write, case: &Case) -> io::Result<()> {
+    let mut index = case.index;
+    write!(out, "pieces")?;
+    while index < case.text.len() {
+        let stop = read_at(&case.text, index, 0).index;
+        if stop > index {
+            write!(out, " {stop}")?;
+            index = stop;
         } else {
-            i += 1;
+            index += 1;
         }
     }
+    Ok(())
 }
 
-// The inline run by the lent step, with all eight changes.
-pub fn run(text: &[u8], index: usize, carry: u8) {
-    show_inline(reader::html_text::inline_at(crate_rules(), text, index, carry));
+// The inline run by the lent step. Its carry is the digit.
+pub fn run(out: &mut impl Write, case: &Case, rules: Rules, carry: u8) -> io::Result<()> {
+    show_inline(
+        out,
+        reader::html_text::inline_at(rules, &case.text, case.index, carry),
+    )
 }
 
-// What begins at an index by the lent step, with none of the changes.
-pub fn begins(text: &[u8], index: usize) {
-    show_inline(reader::html_text::inline_at(standard_rules(), text, index, 0));
-}
-
-// Whether a line of a block of a kind has its closer, by the lent step with all eight changes or none.
-pub fn closes(line: &[u8], number: u8, changed: bool) {
-    yes_or_no(reader::html_flow::closes_line(reading(changed), kind(number), line));
+// Whether a line of a block of the digit's kind has its closer, by the lent step.
+pub fn closes(out: &mut impl Write, case: &Case, rules: Rules) -> io::Result<()> {
+    let closes = reader::html_flow::closes_line(rules, kind(case.digit()), &case.text);
+    write!(out, "{}", yes_or_no(closes))
 }

@@ -37,124 +37,91 @@
 //     l    the block scan, and its trace (recorded.rt)
 //     S, L the same; the text is a length of two bytes and a byte, which comes again and again (recorded.rt)
 //
-// There are at most 64 flags in digits, a text has at most 256 bytes, and a case in hexadecimal 512; what is above is cut off. A new kind takes a letter, an arm of
-// `answer` (and in hexadecimal its letter in `one`), and a function in the file of its topic.
-use crate::escape::{FLAGS, flags_of, index_of, unescape};
-use crate::hex::{byte_at, decode, number};
-use crate::readers;
-use crate::recorded::{both, long};
-use crate::scans::{closer, name, scan, standard_closer, standard_scan};
-use crate::show::{end_line, unknown};
-use crate::traces::{record, trace};
+// What is missing in a line is empty or 0. A new kind takes a letter, an arm of `one` or of what it calls for its form, and a function in the file of its topic.
+use crate::case::Case;
+use crate::escape::cut;
+use crate::hex::byte_at;
+use crate::scans::Part;
+use crate::{lines, readers, recorded, scans, screens, traces};
 use lexical::slice::from_indices;
+use rules::{crate_rules, standard_rules};
+use std::alloc::Global;
+use std::io;
+use std::io::{BufRead, BufReader, BufWriter, Write};
 
-// How many bytes standard input has at most, a text, and a case in hexadecimal.
-const CASES: usize = 400000;
+// For a letter that no kind has.
+fn unknown(out: &mut impl Write) -> io::Result<()> {
+    write!(out, "no such case")
+}
 
-const TEXT: usize = 256;
-
-const BYTES: usize = 512;
-
-// In digits, where the flags begin, and the text where there is no flag.
-const FLAGS_AT: usize = 6;
-
-const TEXT_AT: usize = FLAGS_AT + 1;
-
-// In hexadecimal, where the count of flags stands and the room, and where the flags begin.
-const COUNT_AT: usize = 2;
-
-const ROOM_AT: usize = 3;
-
-const NUMBERS: usize = 5;
-
-// What a case asks, by its letter.
-fn answer(letter: u8, text: &[u8], flags: &[u8], index: usize, room: usize) {
-    let digit = byte_at(flags, 0);
+// The answer to a case in digits.
+fn in_digits(out: &mut impl Write, letter: u8, case: &Case) -> io::Result<()> {
     match letter {
-        b'i' => scan(false, text, flags, index),
-        b'b' => scan(true, text, flags, index),
-        b'N' => name(text, flags, index),
-        b'C' => closer(text, flags, index),
-        b'j' => standard_scan(false, text, flags, index),
-        b'd' => standard_scan(true, text, flags, index),
-        b'c' => standard_closer(text, flags, index),
-        b'r' => readers::turn(text, index, digit),
-        b'p' => readers::pieces(text, index),
-        b't' => readers::run(text, index, digit),
-        b'T' => readers::begins(text, index),
-        b'f' => readers::closes(text, digit, true),
-        b'F' => readers::closes(text, digit, false),
-        b'I' => trace(false, text, flags, index, room),
-        b'B' => trace(true, text, flags, index, room),
-        b'e' => record(text, index),
-        b's' => both(false, text, flags, index, room),
-        b'l' => both(true, text, flags, index, room),
-        b'S' => long(false, text, flags, index, room),
-        b'L' => long(true, text, flags, index, room),
-        _ => unknown(),
+        b'i' => scans::inline(out, case),
+        b'b' => scans::block(out, case, Part::Stop),
+        b'N' => scans::block(out, case, Part::Name),
+        b'C' => scans::block(out, case, Part::Closer),
+        b'j' => scans::standard_inline(out, case),
+        b'd' => scans::standard_block(out, case, Part::Stop),
+        b'c' => scans::standard_block(out, case, Part::Closer),
+        b'r' => readers::turn(out, case),
+        b'p' => readers::pieces(out, case),
+        b't' => readers::run(out, case, crate_rules(), case.digit()),
+        b'T' => readers::run(out, case, standard_rules(), 0),
+        b'f' => readers::closes(out, case, crate_rules()),
+        b'F' => readers::closes(out, case, standard_rules()),
+        _ => unknown(out),
     }
 }
 
-fn in_digits(letter: u8, line: &[u8]) {
-    let mut flags = [0u8; FLAGS];
-    let mut buffer = [0u8; TEXT];
-    let count = flags_of(from_indices(line, FLAGS_AT, line.len()), &mut flags);
-    let n = unescape(line, count + TEXT_AT, &mut buffer);
-    answer(
-        letter,
-        from_indices(&buffer, 0, n),
-        from_indices(&flags, 0, count),
-        index_of(line),
-        0,
-    );
+// The answer to a case with a room, in digits.
+fn with_room(alloc: Global, out: &mut impl Write, letter: u8, case: &Case) -> io::Result<()> {
+    match letter {
+        b'w' => screens::withheld(alloc, out, case),
+        b'W' => screens::standard_withheld(alloc, out, case),
+        b'g' => screens::filtered(alloc, out, case),
+        _ => unknown(out),
+    }
 }
 
-fn in_hexadecimal(letter: u8, line: &[u8]) {
-    let mut bytes = [0u8; BYTES];
-    let n = decode(line, &mut bytes);
-    let case = from_indices(&bytes, 0, n);
-    let end = NUMBERS + byte_at(case, COUNT_AT) as usize;
-    answer(
-        letter,
-        from_indices(case, end, n),
-        from_indices(case, NUMBERS, end),
-        number(case),
-        number(from_indices(case, ROOM_AT, NUMBERS)),
-    );
+// The answer to a case in hexadecimal.
+fn in_hexadecimal(alloc: Global, out: &mut impl Write, letter: u8, case: &Case) -> io::Result<()> {
+    match letter {
+        b'I' => traces::inline(alloc, out, case),
+        b'B' => traces::block(alloc, out, case),
+        b'e' => traces::record(out, case),
+        b's' | b'S' => recorded::inline(alloc, out, case),
+        b'l' | b'L' => recorded::block(alloc, out, case),
+        _ => unknown(out),
+    }
 }
 
-// The answer to a case, on a line.
-fn one(line: &[u8]) {
+// The answer to a case.
+fn one(alloc: Global, out: &mut impl Write, line: &[u8]) -> io::Result<()> {
     let letter = byte_at(line, 0);
+    let digits = from_indices(line, 1, line.len());
+    let (_, rest) = cut(line);
     match letter {
-        b'n' => crate::lines::line(from_indices(line, 2, line.len())),
-        b'w' | b'W' | b'g' => crate::screens::screened(letter, line),
-        b'I' | b'B' | b'e' | b's' | b'l' | b'S' | b'L' => in_hexadecimal(letter, line),
-        _ => in_digits(letter, line),
-    }
-    end_line();
-}
-
-fn each(text: &[u8]) {
-    let mut from: usize = 0;
-    let mut i: usize = 0;
-    while i < text.len() {
-        let end = i;
-        i += 1;
-        if text[end] == b'\n' {
-            one(from_indices(text, from, end));
-            from = i;
-        }
+        b'n' => lines::line(out, rest),
+        b'w' | b'W' | b'g' => with_room(alloc, out, letter, &Case::with_room(alloc, rest)?),
+        b'I' | b'B' | b'e' | b's' | b'l' => in_hexadecimal(
+            alloc,
+            out,
+            letter,
+            &Case::in_hexadecimal(alloc, digits)?,
+        ),
+        b'S' | b'L' => in_hexadecimal(alloc, out, letter, &Case::of_one_byte(alloc, digits)?),
+        _ => in_digits(out, letter, &Case::in_digits(alloc, rest)?),
     }
 }
 
-fn cases() -> [u8; CASES] {
-    [0u8; CASES]
-}
-
-// Answers every case on standard input.
-pub fn all() {
-    let mut text = cases();
-    let n = io::read_full(0, &mut text);
-    each(from_indices(&text, 0, n));
+// Answers every case on standard input, a line each.
+pub fn all(rt: &(impl Input + Print + AllocGlobal)) -> io::Result<()> {
+    let alloc = rt.alloc();
+    let mut out = BufWriter::new(alloc, io::writer(rt))?;
+    for line in BufReader::new(alloc, rt.reader())?.split(alloc, b'\n') {
+        one(alloc, &mut out, &line?)?;
+        writeln!(out)?;
+    }
+    out.flush()
 }

@@ -1,32 +1,25 @@
 // Cases of both scans.
-use crate::hex::byte_at;
-use crate::show::{found, next, none, refused, space, yes_or_no};
+use crate::case::Case;
+use crate::show::yes_or_no;
 use flow::html_flow::kind_number;
 use flow::scan::{Block, Found, block_scan, standard_block_scan};
 use html::scan::{inline_scan, standard_inline_scan};
 use html::tokenizer::Inline;
+use std::io;
+use std::io::Write;
 
 // `found STOP CARRY`, `none CARRY` or `refused NUMBER CARRY`.
-pub fn show_inline(answer: Inline) {
+pub fn show_inline(out: &mut impl Write, answer: Inline) -> io::Result<()> {
     match answer {
-        Inline::Found { stop, carry } => {
-            found(stop as u64);
-            next(carry as u64);
-        }
-        Inline::Missing { carry } => {
-            none();
-            next(carry as u64);
-        }
-        Inline::Refused { refusal, carry } => {
-            refused(refusal as u64);
-            next(carry as u64);
-        }
+        Inline::Found { stop, carry } => write!(out, "found {stop} {carry}"),
+        Inline::Missing { carry } => write!(out, "none {carry}"),
+        Inline::Refused { refusal, carry } => write!(out, "refused {refusal} {carry}"),
     }
 }
 
 // What of a found block is shown, behind `found KIND`.
 #[derive(Clone, Copy)]
-enum Part {
+pub enum Part {
     // `STOP yes` where a closer was met, `STOP no` where none was.
     Stop,
     // `NAME`.
@@ -35,69 +28,48 @@ enum Part {
     Closer,
 }
 
-fn show_found(block: Found, part: Part) {
-    let kind = block.kind;
-    found(kind_number(kind) as u64);
+fn show_found(out: &mut impl Write, block: Found, part: Part) -> io::Result<()> {
+    let kind = kind_number(block.kind);
+    let stop = block.stop;
     match part {
-        Part::Stop => {
-            next(block.stop as u64);
-            space();
-            yes_or_no(block.closed);
-        }
-        Part::Name => {
-            next(block.name as u64);
-        }
-        Part::Closer => {
-            next(block.closer as u64);
-            next(block.stop as u64);
-        }
+        Part::Stop => write!(out, "found {kind} {stop} {}", yes_or_no(block.closed)),
+        Part::Name => write!(out, "found {kind} {}", block.name),
+        Part::Closer => write!(out, "found {kind} {} {stop}", block.closer),
     }
 }
 
 // The same, `none` or `refused NUMBER`.
-fn show_block(answer: Block, part: Part) {
+fn show_block(out: &mut impl Write, answer: Block, part: Part) -> io::Result<()> {
     match answer {
-        Block::Found(block) => {
-            show_found(block, part);
-        }
-        Block::Missing => {
-            none();
-        }
-        Block::Refused { refusal } => {
-            refused(refusal as u64);
-        }
+        Block::Found(block) => show_found(out, block, part),
+        Block::Missing => write!(out, "none"),
+        Block::Refused { refusal } => write!(out, "refused {refusal}"),
     }
 }
 
-// The block scan, or the inline scan, whose carry is its one flag.
-pub fn scan(block: bool, text: &[u8], flags: &[u8], index: usize) {
-    if block {
-        show_block(block_scan(text, flags, index), Part::Stop);
-    } else {
-        show_inline(inline_scan(text, index, byte_at(flags, 0)));
-    }
+// The inline scan, whose carry is its one flag.
+pub fn inline(out: &mut impl Write, case: &Case) -> io::Result<()> {
+    show_inline(out, inline_scan(&case.text, case.index, case.digit()))
 }
 
 // The same by the standard.
-pub fn standard_scan(block: bool, text: &[u8], flags: &[u8], index: usize) {
-    if block {
-        show_block(standard_block_scan(text, flags, index), Part::Stop);
-    } else {
-        show_inline(standard_inline_scan(text, index, byte_at(flags, 0)));
-    }
+pub fn standard_inline(out: &mut impl Write, case: &Case) -> io::Result<()> {
+    show_inline(
+        out,
+        standard_inline_scan(&case.text, case.index, case.digit()),
+    )
 }
 
-// The block scan: the place of the name.
-pub fn name(text: &[u8], flags: &[u8], index: usize) {
-    show_block(block_scan(text, flags, index), Part::Name);
-}
-
-// The block scan: where the closer begins, and the stop.
-pub fn closer(text: &[u8], flags: &[u8], index: usize) {
-    show_block(block_scan(text, flags, index), Part::Closer);
+// The block scan.
+pub fn block(out: &mut impl Write, case: &Case, part: Part) -> io::Result<()> {
+    show_block(out, block_scan(&case.text, &case.flags, case.index), part)
 }
 
 // The same by the standard.
-pub fn standard_closer(text: &[u8], flags: &[u8], index: usize) {
-    show_block(standard_block_scan(text, flags, index), Part::Closer);
+pub fn standard_block(out: &mut impl Write, case: &Case, part: Part) -> io::Result<()> {
+    show_block(
+        out,
+        standard_block_scan(&case.text, &case.flags, case.index),
+        part,
+    )
 }

@@ -1,77 +1,53 @@
 // Cases of traces, written and read.
-use crate::hex::byte_at;
-use crate::show::{next, put, refused, show_bytes, space};
+use crate::case::Case;
 use rules::Output;
+use std::alloc::Global;
+use std::io;
+use std::io::Write;
 use trace::block::block_trace;
 use trace::reader::{Record, read_trace};
 use trace::tracer::inline_trace;
 
-// How many bytes an output buffer has at most.
-const ROOM: usize = 1024;
-
-// What it holds before.
+// What an output buffer holds before.
 const FILL: u8 = 0xee;
 
-// `traced LENGTH` or `refused NUMBER`, and the buffer.
-fn show_trace(answer: Output, out: &[u8]) {
+// `traced LENGTH` or `refused NUMBER`, and the buffer, two hexadecimal digits for each byte.
+fn show_trace(out: &mut impl Write, answer: Output, buffer: &[u8]) -> io::Result<()> {
     match answer {
-        Output::Written { length: n } => {
-            put(b"traced ", n as u64);
-        }
-        Output::Refused { refusal } => {
-            refused(refusal as u64);
-        }
+        Output::Written { length } => write!(out, "traced {length} ")?,
+        Output::Refused { refusal } => write!(out, "refused {refusal} ")?,
     }
-    space();
-    show_bytes(out);
+    for byte in buffer {
+        write!(out, "{byte:02x}")?;
+    }
+    Ok(())
 }
 
-// `event KIND LINE COLUMN INDEX VS`, `last KIND STOP VALUE` or `refused NUMBER`.
-fn show_record(answer: Record) {
-    match answer {
+// The trace of the inline scan, whose carry is its one flag, into a buffer of the room.
+pub fn inline(alloc: Global, out: &mut impl Write, case: &Case) -> io::Result<()> {
+    let mut buffer = vec![in alloc; FILL; case.room]?;
+    let answer = inline_trace(&case.text, case.index, case.digit(), &mut buffer);
+    show_trace(out, answer, &buffer)
+}
+
+// The trace of the block scan likewise.
+pub fn block(alloc: Global, out: &mut impl Write, case: &Case) -> io::Result<()> {
+    let mut buffer = vec![in alloc; FILL; case.room]?;
+    let answer = block_trace(&case.text, &case.flags, case.index, &mut buffer);
+    show_trace(out, answer, &buffer)
+}
+
+// The record whose number is the index: `event KIND LINE COLUMN INDEX VS`, `last KIND STOP VALUE` or `refused NUMBER`.
+pub fn record(out: &mut impl Write, case: &Case) -> io::Result<()> {
+    match read_trace(&case.text, case.index) {
         Record::Event {
             kind,
             line,
             column,
             index,
             vs,
-        } => {
-            put(b"event ", kind as u64);
-            next(line as u64);
-            next(column as u64);
-            next(index as u64);
-            next(vs as u64);
-        }
-        Record::Last { kind, stop, value } => {
-            put(b"last ", kind as u64);
-            next(stop as u64);
-            next(value as u64);
-        }
-        Record::Refused { refusal } => {
-            refused(refusal as u64);
-        }
+        } => write!(out, "event {kind} {line} {column} {index} {vs}"),
+        Record::Last { kind, stop, value } => write!(out, "last {kind} {stop} {value}"),
+        Record::Refused { refusal } => write!(out, "refused {refusal}"),
     }
-}
-
-fn into(block: bool, text: &[u8], flags: &[u8], index: usize, out: &mut [u8]) {
-    if block {
-        let answer = block_trace(text, flags, index, out);
-        show_trace(answer, out);
-        return;
-    }
-    let answer = inline_trace(text, index, byte_at(flags, 0), out);
-    show_trace(answer, out);
-}
-
-// The trace of the block scan, or of the inline scan, whose carry is its one flag, into a buffer of a room.
-pub fn trace(block: bool, text: &[u8], flags: &[u8], index: usize, room: usize) {
-    let mut out = [FILL; ROOM];
-    if room <= ROOM {
-        into(block, text, flags, index, &mut out[0..room]);
-    }
-}
-
-// The record of a number.
-pub fn record(bytes: &[u8], number: usize) {
-    show_record(read_trace(bytes, number));
 }
