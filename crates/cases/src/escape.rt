@@ -1,5 +1,5 @@
 // Cases in text: fields behind a space each, numbers in decimal digits, and a text in which `\n`, `\r`, `\t` and `\\` are LF, CR, tab and backslash.
-ghost use Rattle.std.specs.Prelude.{◌≡◌, ◌+◌, ◌≤◌, ◌∷◌, ◌++◌, length, IfOk};
+ghost use Rattle.std.specs.Prelude.{◌≡◌, ◌≤◌, length, IfOk};
 
 use crate::hex::{byte_at, digit};
 use std::alloc::{AllocError, Global};
@@ -13,7 +13,7 @@ pub fn cut(line: &[u8]) -> (&[u8], &[u8]) {
 }
 
 // The number of decimal digits, or 0.
-pub fn number(digits: &[u8]) -> usize {
+pub fn decimal(digits: &[u8]) -> usize {
     let Ok(text) = str::from_utf8(digits) else {
         return 0;
     };
@@ -27,7 +27,7 @@ pub fn flags(alloc: Global, digits: &[u8]) -> Result<Vec<u8>, AllocError>
     digits.iter().map(|b| digit(*b)).collect(alloc)
 }
 
-// The byte that a letter behind a backslash means: itself but for three.
+// What a backslash and the letter behind it mean: a backslash but for three letters.
 fn meant(letter: u8) -> u8 {
     match letter {
         b'n' => b'\n',
@@ -38,7 +38,9 @@ fn meant(letter: u8) -> u8 {
 }
 
 // The text of a case.
-pub fn unescape(alloc: Global, escaped: &[u8]) -> Result<Vec<u8>, AllocError> {
+pub fn unescape(alloc: Global, escaped: &[u8]) -> Result<Vec<u8>, AllocError>
+    ensures { IfOk result (λ text. length text.items ≤ length escaped.now) }
+{
     let mut text = Vec::new(alloc);
     let mut rest = escaped;
     while let Some((first, behind)) = rest.split_first() {

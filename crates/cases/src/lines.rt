@@ -1,4 +1,5 @@
 // Cases of a line.
+use crate::case::Case;
 use lexical::constant::{NO_NAME, block_place, raw_place};
 use lexical::event::Point;
 use lexical::line::is_blank;
@@ -19,7 +20,8 @@ fn show_place(out: &mut impl Write, name: &[u8]) -> io::Result<()> {
 }
 
 // The list of names with the place in it, the column at the end, and `blank` where it is.
-pub fn line(out: &mut impl Write, text: &[u8]) -> io::Result<()> {
+pub fn line(out: &mut impl Write, case: &Case) -> io::Result<()> {
+    let text = &case.text;
     show_place(out, text)?;
     let column = Point::start().move_to(text, text.len()).column;
     let blank = if is_blank(text, 0) { " blank" } else { "" };

@@ -44,7 +44,7 @@ pub fn pieces(out: &mut impl Write, case: &Case) -> io::Result<()> {
     Ok(())
 }
 
-// The inline run by the lent step. Its carry is the digit.
+// The inline run by the lent step.
 pub fn run(out: &mut impl Write, case: &Case, rules: Rules, carry: u8) -> io::Result<()> {
     show_inline(
         out,
@@ -54,6 +54,6 @@ pub fn run(out: &mut impl Write, case: &Case, rules: Rules, carry: u8) -> io::Re
 
 // Whether a line of a block of the digit's kind has its closer, by the lent step.
 pub fn closes(out: &mut impl Write, case: &Case, rules: Rules) -> io::Result<()> {
-    let closes = reader::html_flow::closes_line(rules, kind(case.digit()), &case.text);
-    write!(out, "{}", yes_or_no(closes))
+    let has_closer = reader::html_flow::closes_line(rules, kind(case.digit()), &case.text);
+    write!(out, "{}", yes_or_no(has_closer))
 }

@@ -37,26 +37,25 @@
 //     l    the block scan, and its trace (recorded.rt)
 //     S, L the same; the text is a length of two bytes and a byte, which comes again and again (recorded.rt)
 //
-// What is missing in a line is empty or 0. A new kind takes a letter, an arm of `one` or of what it calls for its form, and a function in the file of its topic.
+// What is missing in a line is empty or 0. A new kind takes a letter, an arm of `answer` (and in another form than `INDEX FLAGS TEXT` its letter in `Case::new`), and
+// a function in the file of its topic.
 use crate::case::Case;
-use crate::escape::cut;
-use crate::hex::byte_at;
 use crate::scans::Part;
 use crate::{lines, readers, recorded, scans, screens, traces};
-use lexical::slice::from_indices;
 use rules::{crate_rules, standard_rules};
 use std::alloc::Global;
 use std::io;
 use std::io::{BufRead, BufReader, BufWriter, Write};
 
-// For a letter that no kind has.
+// For a letter that no kind has, or none.
 fn unknown(out: &mut impl Write) -> io::Result<()> {
     write!(out, "no such case")
 }
 
-// The answer to a case in digits.
-fn in_digits(out: &mut impl Write, letter: u8, case: &Case) -> io::Result<()> {
+// What a case asks, by its letter.
+fn answer(alloc: Global, out: &mut impl Write, letter: u8, case: &Case) -> io::Result<()> {
     match letter {
+        b'n' => lines::line(out, case),
         b'i' => scans::inline(out, case),
         b'b' => scans::block(out, case, Part::Stop),
         b'N' => scans::block(out, case, Part::Name),
@@ -70,23 +69,9 @@ fn in_digits(out: &mut impl Write, letter: u8, case: &Case) -> io::Result<()> {
         b'T' => readers::run(out, case, standard_rules(), 0),
         b'f' => readers::closes(out, case, crate_rules()),
         b'F' => readers::closes(out, case, standard_rules()),
-        _ => unknown(out),
-    }
-}
-
-// The answer to a case with a room, in digits.
-fn with_room(alloc: Global, out: &mut impl Write, letter: u8, case: &Case) -> io::Result<()> {
-    match letter {
         b'w' => screens::withheld(alloc, out, case),
         b'W' => screens::standard_withheld(alloc, out, case),
         b'g' => screens::filtered(alloc, out, case),
-        _ => unknown(out),
-    }
-}
-
-// The answer to a case in hexadecimal.
-fn in_hexadecimal(alloc: Global, out: &mut impl Write, letter: u8, case: &Case) -> io::Result<()> {
-    match letter {
         b'I' => traces::inline(alloc, out, case),
         b'B' => traces::block(alloc, out, case),
         b'e' => traces::record(out, case),
@@ -98,20 +83,9 @@ fn in_hexadecimal(alloc: Global, out: &mut impl Write, letter: u8, case: &Case) 
 
 // The answer to a case.
 fn one(alloc: Global, out: &mut impl Write, line: &[u8]) -> io::Result<()> {
-    let letter = byte_at(line, 0);
-    let digits = from_indices(line, 1, line.len());
-    let (_, rest) = cut(line);
-    match letter {
-        b'n' => lines::line(out, rest),
-        b'w' | b'W' | b'g' => with_room(alloc, out, letter, &Case::with_room(alloc, rest)?),
-        b'I' | b'B' | b'e' | b's' | b'l' => in_hexadecimal(
-            alloc,
-            out,
-            letter,
-            &Case::in_hexadecimal(alloc, digits)?,
-        ),
-        b'S' | b'L' => in_hexadecimal(alloc, out, letter, &Case::of_one_byte(alloc, digits)?),
-        _ => in_digits(out, letter, &Case::in_digits(alloc, rest)?),
+    match line.split_first() {
+        Some((letter, asked)) => answer(alloc, out, *letter, &Case::new(alloc, *letter, asked)?),
+        None => unknown(out),
     }
 }
 

@@ -1,5 +1,5 @@
 // Cases of withholding and of the tag filter. The text is the bulletin.
-use crate::case::Case;
+use crate::case::{Case, FILL};
 use lexical::slice::from_indices;
 use rules::Output;
 use screen::withhold::{Withheld, standard_withhold, withhold};
@@ -7,9 +7,6 @@ use std::alloc::Global;
 use std::io;
 use std::io::Write;
 use tagfilter::filter::filter;
-
-// What the output buffer holds before.
-const FILL: u8 = 0xee;
 
 // `same` where the output buffer is as it was, from an index on, else `changed`.
 fn show_same(out: &mut impl Write, buffer: &[u8], from: usize) -> io::Result<()> {
@@ -71,21 +68,21 @@ fn show_written(out: &mut impl Write, answer: Output, buffer: &[u8]) -> io::Resu
 
 // Withholding.
 pub fn withheld(alloc: Global, out: &mut impl Write, case: &Case) -> io::Result<()> {
-    let mut buffer = vec![in alloc; FILL; case.room]?;
+    let mut buffer = case.buffer(alloc)?;
     let answer = withhold(&case.text, &case.flags, &mut buffer);
     show_withheld(out, answer, &buffer)
 }
 
 // Withholding by the standard.
 pub fn standard_withheld(alloc: Global, out: &mut impl Write, case: &Case) -> io::Result<()> {
-    let mut buffer = vec![in alloc; FILL; case.room]?;
+    let mut buffer = case.buffer(alloc)?;
     let answer = standard_withhold(&case.text, &case.flags, &mut buffer);
     show_withheld(out, answer, &buffer)
 }
 
 // The tag filter.
 pub fn filtered(alloc: Global, out: &mut impl Write, case: &Case) -> io::Result<()> {
-    let mut buffer = vec![in alloc; FILL; case.room]?;
+    let mut buffer = case.buffer(alloc)?;
     let answer = filter(&case.text, &case.flags, &mut buffer);
     show_written(out, answer, &buffer)
 }

@@ -8,9 +8,6 @@ use trace::block::block_trace;
 use trace::reader::{Record, read_trace};
 use trace::tracer::inline_trace;
 
-// What an output buffer holds before.
-const FILL: u8 = 0xee;
-
 // `traced LENGTH` or `refused NUMBER`, and the buffer, two hexadecimal digits for each byte.
 fn show_trace(out: &mut impl Write, answer: Output, buffer: &[u8]) -> io::Result<()> {
     match answer {
@@ -25,14 +22,14 @@ fn show_trace(out: &mut impl Write, answer: Output, buffer: &[u8]) -> io::Result
 
 // The trace of the inline scan, whose carry is its one flag, into a buffer of the room.
 pub fn inline(alloc: Global, out: &mut impl Write, case: &Case) -> io::Result<()> {
-    let mut buffer = vec![in alloc; FILL; case.room]?;
+    let mut buffer = case.buffer(alloc)?;
     let answer = inline_trace(&case.text, case.index, case.digit(), &mut buffer);
     show_trace(out, answer, &buffer)
 }
 
 // The trace of the block scan likewise.
 pub fn block(alloc: Global, out: &mut impl Write, case: &Case) -> io::Result<()> {
-    let mut buffer = vec![in alloc; FILL; case.room]?;
+    let mut buffer = case.buffer(alloc)?;
     let answer = block_trace(&case.text, &case.flags, case.index, &mut buffer);
     show_trace(out, answer, &buffer)
 }

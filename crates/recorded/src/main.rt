@@ -1,6 +1,7 @@
 // Recorded answers of the Rust crate markdown 1.0.0, replayed without it; what a line asks, and the form of its answer, stand in crates/cases. The files stdin and
 // stdout are written by compare/record.sh, which asks the Rust, and 01's table for refusals; it tells what the cases cover.
 #![tactic(auto)]
+
 use std::io;
 
 fn main(rt: HostRuntime) -> io::Result<()> {

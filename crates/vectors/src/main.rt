@@ -35,6 +35,7 @@
 // the refusals. The answers are those of a model of 4.6 and 6.6 of CommonMark 0.31.2 that was made for them, of regular expressions and 01's flags and stops; of
 // the first 726 they are the answers above but in 36, where one of the eight applies.
 #![tactic(auto)]
+
 use std::io;
 
 fn main(rt: HostRuntime) -> io::Result<()> {
