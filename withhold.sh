@@ -8,6 +8,7 @@ SOFTWARE=70
 
 root=$(dirname -- "$(readlink -f -- "${BASH_SOURCE[0]}")")
 program=$root/target/bin/withhold
+made=$root/crates/withhold/out/withhold
 folder=$root/target/withhold
 log=$folder/build.log
 
@@ -30,11 +31,12 @@ declare -A needed
 order=()
 read_crates() {
     local line name
-    while IFS= read -r line; do
+    # Before the colon words on how the crate is built may stand behind its name.
+    while read -r name line; do
+        line="$name $line"
         line=${line%%#*}
         [[ $line == *:* ]] || continue
-        name=${line%%:*}
-        needed[${name//[[:space:]]/}]=${line#*:}
+        needed[${name%%:*}]=${line#*:}
     done <"$root/crates.txt"
 }
 visit() {
@@ -48,7 +50,7 @@ visit() {
     order+=("$1")
 }
 
-# Their sources, each with its time and length. One that is added or removed changes the list too.
+# Their sources, each with its time and length. One that is added or removed changes the list too. What rt makes stands in crates/NAME/out.
 sources() {
     local name
     local -a places=(crates.txt)
@@ -64,28 +66,35 @@ is_built() {
     [ -x "$program" ] && [ -r "$folder/sources" ] && [ "$(<"$folder/sources")" = "$now" ]
 }
 
-# Says which crates are being proved: rt makes target/log/NAME.say when it begins with one.
+# Says which crates are being proved: rt says how many jobs it chose for a crate when it begins with one. It goes on in the log from where it was, and keeps the
+# part of a line that is not whole yet.
 declare -A told
+line=
 tell() {
-    local name
-    for name in "${order[@]}"; do
-        if [[ ! -v told[$name] && $root/target/log/$name.say -nt $folder/began ]]; then
-            told[$name]=1
-            say "proving $name, ${#told[@]} of ${#order[@]}"
+    local part name
+    while IFS= read -r part <&8; do
+        line+=$part
+        if [[ $line =~ ^'rt: chose --jobs '[0-9]+' for '([a-z0-9_]+)$ ]]; then
+            name=${BASH_REMATCH[1]}
+            if [[ ! -v told[$name] ]]; then
+                told[$name]=1
+                say "proving $name, ${#told[@]} of ${#order[@]}"
+            fi
         fi
+        line=
     done
+    line+=$part
 }
 
 build() {
     local building signal
     command -v rt >/dev/null || fails "there is no 'rt', the Rattle toolchain, on PATH"
-    { : >"$folder/began" && : >"$log"; } 2>/dev/null || fails "cannot write in $folder"
+    { : >"$log"; } 2>/dev/null || fails "cannot write in $folder"
     say "building the program first: each crate that is new or changed is proved, which can take minutes; what the prover says goes to $log"
-    # rt takes a program that its stamp says is proved for built.
-    [ -x "$program" ] || rm -f "$root/target/stamp/withhold"
-    # In a process group of its own, so that a signal that ends this script ends all of it.
+    exec 8<"$log"
+    # In a process group of its own, so that a signal that ends this script ends all of it. What rt has built it runs: on no byte.
     set -m
-    (cd "$root" && exec rt check withhold) </dev/null >"$log" 2>&1 &
+    (cd "$root/crates/withhold" && exec rt run) </dev/null >"$log" 2>&1 8<&- &
     building=$!
     set +m
     for signal in HUP INT QUIT TERM; do
@@ -99,7 +108,10 @@ build() {
     tell
     wait "$building" || fails "$(tail -n 1 "$log"); what the prover says is in $log"
     trap - HUP INT QUIT TERM
-    [ -x "$program" ] || fails "rt made no $program; what it says is in $log"
+    exec 8<&-
+    [ -x "$made" ] || fails "rt made no $made; what it says is in $log"
+    # A run that still waits for its input keeps the program that it has.
+    { cp "$made" "$program.new" && mv -f "$program.new" "$program"; } 2>/dev/null || fails "cannot write in ${program%/*}"
     printf '%s\n' "$now" >"$folder/sources" || fails "cannot write in $folder"
     say "built"
 }
@@ -110,7 +122,7 @@ build() {
 read_crates
 visit withhold
 if ! is_built; then
-    mkdir -p "$folder" 2>/dev/null || fails "cannot write in $folder"
+    mkdir -p "$folder" "${program%/*}" 2>/dev/null || fails "cannot write in $folder"
     # One run builds at a time.
     exec 9>>"$folder/lock"
     if command -v flock >/dev/null && ! flock -n 9; then

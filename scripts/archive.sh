@@ -1,6 +1,6 @@
 #!/usr/bin/env bash
-# Builds the archive target/staticlib/libforingamo.a where it is not there or is older than its sources, by `rt staticlib foringamo`, which proves what it builds,
-# and says so. (The program is built by withhold.sh.)
+# Builds the archive target/staticlib/libforingamo.a where it is not there or is older than its sources, by `rt lib` in crates/foringamo, which proves what it
+# builds, and says so. (The program is built by withhold.sh.)
 #
 #     scripts/archive.sh
 #
@@ -9,6 +9,7 @@
 cd "$(dirname "$0")/.." || exit 1
 
 file=target/staticlib/libforingamo.a
+made=crates/foringamo/out/libforingamo.a
 log=target/staticlib/build.log
 
 # sources CRATE: crates.txt, and the code of the crate and of all that it depends on.
@@ -22,7 +23,8 @@ sources() {
             count = split(needs[name], names, " ")
             for (i = 1; i <= count; i++) take(names[i])
         }
-        /^[a-z]/ { split($0, half, ":"); needs[half[1]] = half[2] }
+        # Before the colon words on how the crate is built may stand behind its name.
+        /^[a-z]/ { split($0, half, ":"); split(half[1], words, " "); needs[words[1]] = half[2] }
         END { take(crate) }
     ' crates.txt
 }
@@ -45,11 +47,11 @@ if ! command -v rt >/dev/null; then
     exit 1
 fi
 
-echo "$why: \`rt staticlib foringamo\` builds it, some minutes where nothing is proved yet; what it says goes to $log"
+echo "$why: \`rt lib\` in crates/foringamo builds it, some minutes where nothing is proved yet; what it says goes to $log"
 mkdir -p "$(dirname "$log")" || exit 1
-if ! rt staticlib foringamo </dev/null >"$log" 2>&1 || [ ! -f "$file" ]; then
-    echo "rt did not build $file: $log" >&2
+if ! (cd crates/foringamo && rt lib) </dev/null >"$log" 2>&1 || [ ! -f "$made" ]; then
+    echo "rt did not build $made: $log" >&2
     exit 1
 fi
-# rt leaves the file alone where the sources are the same but for their dates.
-touch "$file"
+# Whole, or not at all.
+cp "$made" "$file.new" && mv -f "$file.new" "$file"
