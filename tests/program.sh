@@ -372,33 +372,44 @@ ends_by TERM 143
 ends_by INT 130
 ends_by HUP 129
 
-# ---- building, in a copy of the repository, with a script in rt's place: to prove all from nothing takes minutes. It does what rt does as far as withhold.sh sees:
-# target/log/NAME.say is made when a crate's proof begins, notes go to standard output, a program whose stamp is there is not built again, and the status is 1 where
-# something is not proved.
+# ---- building, in a copy of the repository, with a script in rt's place: to prove all from nothing takes minutes. It does what `rt run` does as far as withhold.sh
+# sees: a line has the jobs that it chose for a crate when its proof begins, all that is said goes to standard error, what it makes goes to the crates' out/, a program
+# whose stamp is there is not built again, the program is run, and the status is 1 where something is not proved.
 
 # The crates that the program depends on, and the program.
 export STAND_IN_CRATES='lexical rules html flow runs walk screen withhold'
 copy=$folder/copy
 mkdir -p "$copy" "$folder/bin"
-cp -R withhold.sh scripts VERSION crates.txt crates "$copy/"
+cp -R withhold.sh scripts VERSION crates.txt "$copy/"
+# The crates, less what rt has made in them.
+for part in crates/*/*; do
+    [ "${part##*/}" != out ] || continue
+    mkdir -p "$copy/${part%/*}"
+    cp -R "$part" "$copy/${part%/*}/"
+done
 cat >"$folder/bin/rt" <<'STAND_IN'
 #!/usr/bin/env bash
-[ "$*" = 'check withhold' ] || exit 2
+[ "$*" = run ] && [ -f src/main.rt ] || exit 2
 echo run >>"$STAND_IN/runs"
 echo $$ >"$STAND_IN/pid"
-mkdir -p target/log target/bin target/stamp
+exec >&2
 for crate in $STAND_IN_CRATES; do
-    echo 'note: a note of the prover' | tee "target/log/$crate.say"
+    # In two pieces, as they may come.
+    printf 'rt: chose --jobs 2'
+    mkdir -p "../$crate/out/rlib"
     sleep "${STAND_IN_TIME:-0}"
-    echo "rt: $crate proved (0 s)"
+    echo " for $crate"
+    echo 'note: a note of the prover'
+    date >"../$crate/out/rlib/stamp"
 done
 if [ -e "$STAND_IN/fails" ]; then
-    echo 'rt: FAILED: screen'
+    echo 'rt: the library screen did not build, so nothing above it was checked'
     exit 1
 fi
-[ -e target/stamp/withhold ] || cp "$STAND_IN_PROGRAM" target/bin/withhold
-: >target/stamp/withhold
-echo 'rt: ok, 7 crates proved'
+[ -e out/withhold.stamp ] || cp "$STAND_IN_PROGRAM" out/withhold
+: >out/withhold.stamp
+echo 'rt: running out/withhold; to give it other input, run that file yourself'
+out/withhold
 STAND_IN
 chmod +x "$folder/bin/rt"
 export STAND_IN=$folder STAND_IN_PROGRAM=$program
@@ -488,7 +499,9 @@ rm "$copy/target/bin/withhold"
 rebuilds 'the program is removed'
 rm -r "$copy/target"
 rebuilds 'target/ is removed'
-touch "$copy/crates/trace/src/lib.rt" "$copy/crates/withhold/stdin" "$copy/README.md"
+rm -r "$copy"/crates/*/out "$copy/target"
+rebuilds 'target/ and what rt has made are removed'
+touch "$copy/crates/trace/src/lib.rt" "$copy/crates/withhold/stdin" "$copy/crates/screen/out/rlib/stamp" "$copy/README.md"
 check 'what it does not depend on is newer' 0 with_rt "$copy/withhold.sh"
 runs 'what it does not depend on is newer' "$count"
 
@@ -499,7 +512,7 @@ for turn in first second; do
     with_rt "$copy/withhold.sh" <"$folder/in" >"$folder/out" 2>"$folder/err"
     is "a build that fails, the $turn time" $? 70
     is "a build that fails, the $turn time: what is shown" "$(<"$folder/out")" ''
-    is "a build that fails, the $turn time: what is said last" "$(tail -n 1 "$folder/err")" "withhold: the program is not built: rt: FAILED: screen; what the prover says is in $copy/target/withhold/build.log"
+    is "a build that fails, the $turn time: what is said last" "$(tail -n 1 "$folder/err")" "withhold: the program is not built: rt: the library screen did not build, so nothing above it was checked; what the prover says is in $copy/target/withhold/build.log"
 done
 rm "$folder/fails"
 count=$((count + 2))
