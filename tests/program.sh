@@ -485,7 +485,7 @@ rebuilds() {
     check "$1, once more" 0 with_rt "$copy/withhold.sh"
     runs "$1, once more" "$count"
 }
-for changed in crates.txt crates/withhold/src/main.rt crates/lexical/src/byte.rt crates/rules/specs/Tag.antt crates/screen/proofs/Walk.antt; do
+for changed in crates.txt crates/withhold/src/main.rt crates/lexical/src/byte.rt crates/rules/specs/Tag.antt crates/screen/proofs/Withholding.antt; do
     touch "$copy/$changed"
     rebuilds "$changed is newer"
 done
