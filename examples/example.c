@@ -1,7 +1,7 @@
 /*
  * Counts the lines of a bulletin, withholds from it, scans it for a block and an inline piece, withholds in both readings, filters tags, and traces a scan.
  *
- *     rt staticlib foringamo
+ *     scripts/archive.sh
  *     cc -Iinclude -o target/example examples/example.c target/staticlib/libforingamo.a && target/example
  */
 #include <stdio.h>

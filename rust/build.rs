@@ -10,7 +10,7 @@ const ARCHIVE: &str = "libforingamo.a";
 
 fn fails(what: &str) -> ! {
     eprintln!("{what}");
-    eprintln!("In the repository `rt staticlib foringamo` builds {ARCHIVE}. Of an installed one cargo is told the folder:");
+    eprintln!("In the repository scripts/archive.sh builds {ARCHIVE}. Of an installed one cargo is told the folder:");
     eprintln!("    {VARIABLE}=$(pkg-config --variable=libdir foringamo) cargo build");
     exit(1)
 }

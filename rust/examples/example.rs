@@ -1,6 +1,6 @@
 //! Counts the lines of a bulletin, withholds from it, scans it for a block and an inline piece, withholds in both readings, filters tags, and traces a scan.
 //!
-//!     rt staticlib foringamo
+//!     scripts/archive.sh
 //!     CARGO_TARGET_DIR=target/cargo cargo run --offline --manifest-path rust/Cargo.toml --example example
 #![forbid(unsafe_code)]
 
