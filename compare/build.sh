@@ -18,12 +18,14 @@ fi
 top=$(cd "$(dirname "$0")/.." && pwd)
 sources=$(cd "${FORINGAMO_RUST_SOURCES:-$top/../shared/docs/src}/src" && pwd)
 out=${1:-$top/target/compare}
-# A folder with links to the programs' files and, as markdown/, to the Rust crate's.
+# A folder with copies of the programs' files and, as markdown/, of the Rust
+# crate's: `rt ci` refuses links. What is read-only there is not so here.
 rm -rf "$out/src"
 mkdir -p "$out/src"
 out=$(cd "$out" && pwd)
-ln -s "$top"/compare/src/*.rs "$out/src/"
-ln -s "$sources" "$out/src/markdown"
+cp "$top"/compare/src/*.rs "$out/src/"
+cp -R "$sources" "$out/src/markdown"
+chmod -R u+w "$out/src"
 cd "$out"
 
 build() {
