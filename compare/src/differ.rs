@@ -323,6 +323,7 @@ fn at_random(seed: u64, count: u64, tally: &mut Tally) {
     let random = &mut Random::new(seed);
     for _ in 0..count {
         let text = fragments::text(random);
+        let text = fragments::with_backslashes(random, text);
         let starts = line_starts(&text);
         let flags = fragments::flags(random, starts.len());
 
@@ -363,6 +364,7 @@ fn at_random(seed: u64, count: u64, tally: &mut Tally) {
 /// A bulletin with the filter's names.
 fn tagged(random: &mut Random, tally: &mut Tally) {
     let text = fragments::tagged(random);
+    let text = fragments::with_backslashes(random, text);
     let flags = fragments::flags(random, line_starts(&text).len());
     tally.random_screen(&text, &flags);
 }

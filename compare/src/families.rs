@@ -2,6 +2,7 @@
 //! strings at each of a few places.
 
 use crate::filter;
+use crate::table;
 use reference::{HTML_BLOCK_NAMES, HTML_RAW_NAMES};
 
 /// What is asked of a text. The bulletins of a family that is to be withheld are
@@ -345,12 +346,54 @@ impl List {
         );
     }
 
+    /// Backslashes before openings of blocks and of inline pieces, in and behind
+    /// pieces, and in runs up to the longest that the limit on bulletins allows.
+    fn backslashes(&mut self) {
+        let kind = Kind::Withhold;
+        self.runs(
+            kind,
+            true,
+            b"",
+            &strings(&[b"\\", b"<a>", b"<", b"x", b"\n", b"<!-- ", b"-->"]),
+            4,
+        );
+        self.runs(
+            kind,
+            true,
+            b"x",
+            &strings(&[b"\\", b"<?", b"?>", b"</b", b" c='", b"'>", b">", b"\r\n"]),
+            4,
+        );
+        self.runs(kind, false, b"", &letters(b"\\<a>\n"), 6);
+
+        let lengths = (0..=9).chain(table::LIMIT - 9..=table::LIMIT + 1);
+        self.add(
+            kind,
+            true,
+            vec![
+                strings(&[b"", b"x", b"x\n", b"<p>\n\n"]),
+                lengths.map(|length| vec![b'\\'; length]).collect(),
+                strings(&[b"<b>", b"<xmp>"]),
+            ],
+        );
+    }
+
     /// Tags with the filter's names, of which not all count: in blocks and
-    /// paragraphs, and in the comments and values there.
+    /// paragraphs, behind backslashes there, and in the comments and values there.
     fn filtered_names(&mut self) {
         let kind = Kind::Withhold;
         let names = strings(&filter::NAMES.map(str::as_bytes));
-        let around: [&[u8]; 6] = [b"", b"a ", b"<div>\n", b"<!-- ", b"a <!-- ", b"<a b='"];
+        let around: [&[u8]; 9] = [
+            b"",
+            b"a ",
+            b"a \\",
+            b"a \\\\",
+            b"<div>\n",
+            b"<div>\n\\",
+            b"<!-- ",
+            b"a <!-- ",
+            b"<a b='",
+        ];
         let behind: [&[u8]; 19] = [
             b"", b">", b"/>", b" ", b"\t", b"\n", b"\r", b"\r\n", b"/", b"/ >", b"//>", b"x>",
             b" b>", b">\n\n", b"> -->", b" b='c'>", b" '>", b"\x0c>", b"\n\n>",
@@ -386,7 +429,7 @@ impl List {
             kind,
             true,
             b"x <a b='",
-            &strings(&[b"<STYLE>", b"</iframe", b"'>", b" ", b"\r", b"<"]),
+            &strings(&[b"<STYLE>", b"</iframe", b"'>", b" ", b"\r", b"<", b"\\"]),
             4,
         );
         self.runs(
@@ -408,6 +451,7 @@ pub fn all(long: bool) -> Vec<Family> {
     list.inline();
     list.blocks();
     list.screens();
+    list.backslashes();
     list.filtered_names();
     list.filtered_runs();
     list.families

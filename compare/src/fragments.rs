@@ -50,6 +50,9 @@ const BEHIND: [&[u8]; 19] = [
     b"", b"/", b"/ >", b"x>", b"-a>", b"<", b"\x0c>",
 ];
 
+/// The length of the shortest text that is about as long as is allowed.
+const LONG: usize = 15_900;
+
 /// A text; now and then one that is about as long as is allowed.
 pub fn text(random: &mut Random) -> Vec<u8> {
     if random.once_in(4000) {
@@ -175,7 +178,7 @@ pub fn tagged(random: &mut Random) -> Vec<u8> {
         mutate(random, &mut text);
     }
     if random.once_in(50_000) {
-        let length = 15_900 + random.below(101);
+        let length = LONG + random.below(101);
         return text.into_iter().cycle().take(length).collect();
     }
     text
@@ -195,6 +198,28 @@ fn filtered_tag(random: &mut Random, text: &mut Vec<u8>) {
         _ => {}
     }
     text.extend_from_slice(random.one(&BEHIND));
+}
+
+/// One text in three with runs of backslashes put in, most before a `<`. One that
+/// is about as long as is allowed stays as long.
+pub fn with_backslashes(random: &mut Random, text: Vec<u8>) -> Vec<u8> {
+    if !random.once_in(3) {
+        return text;
+    }
+    let rare = 1 + random.below(4);
+    let longest = random.one(&[1, 2, 5, 5, 40]);
+    let mut with = vec![];
+    for byte in &text {
+        if random.once_in(if *byte == b'<' { rare } else { 12 * rare }) {
+            let length = with.len() + 1 + random.below(longest);
+            with.resize(length, b'\\');
+        }
+        with.push(*byte);
+    }
+    if text.len() >= LONG {
+        with.truncate(text.len());
+    }
+    with
 }
 
 /// Up to three bytes deleted, changed, put in or said twice.
@@ -217,7 +242,7 @@ fn mutate(random: &mut Random, text: &mut Vec<u8>) {
 
 /// From 15,900 to 16,003 bytes: a fragment again and again, with others between.
 fn long(random: &mut Random) -> Vec<u8> {
-    let length = 15_900 + random.below(104);
+    let length = LONG + random.below(104);
     let mut text = vec![];
     if random.once_in(2) {
         text.extend_from_slice(random.one(&OPENINGS));

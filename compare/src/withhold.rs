@@ -1,5 +1,5 @@
-//! 01, Withhold, over the Rust's scans: the pieces of a bulletin, and what is
-//! shown without them.
+//! 01, Withhold, with 02, Ask 6, over the Rust's scans: the pieces of a bulletin,
+//! and what is shown without them.
 
 use reference::{blank, block, inline, line_end, line_starts};
 use std::ops::Range;
@@ -50,23 +50,32 @@ pub fn pieces(bulletin: &[u8], flags: &[u8]) -> Pieces {
     pieces
 }
 
+/// How many backslashes stand at the end.
+fn backslashes(text: &[u8]) -> usize {
+    text.iter().rev().take_while(|byte| **byte == b'\\').count()
+}
+
 impl Pieces {
     fn add(&mut self, range: Range<usize>, block: bool) {
         self.all.push(Piece { range, block });
     }
 
     /// From the left, try every `<` of a paragraph by inline scan with carry 0;
-    /// take what is found and go on at its stop.
+    /// take what is found and go on at its stop. Not tried is a `<` with an odd
+    /// number of backslashes right before it, counted back to the paragraph's
+    /// start or the last stop.
     fn inline(&mut self, bulletin: &[u8], range: Range<usize>) {
         let text = &bulletin[range.clone()];
+        let mut from = 0;
         let mut index = 0;
         while index < text.len() {
-            if text[index] == b'<' {
+            if text[index] == b'<' && backslashes(&text[from..index]) % 2 == 0 {
                 let answer = inline(text, index, 0);
                 self.scans += 1;
                 if answer.found {
                     self.add(range.start + index..range.start + answer.stop, false);
                     index = answer.stop;
+                    from = index;
                     continue;
                 }
             }
