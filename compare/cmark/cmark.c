@@ -5,7 +5,8 @@
  *
  * Five kinds of comparison, each on N texts: the inline pieces of paragraphs; the blocks and inline pieces of bulletins; withholding, against the pieces that
  * both scans find; blocks in a block quote, some lines of which are lazy (flag 1); and blocks behind a paragraph in a block quote, without its marker (flag 3).
- * A text is skipped where a line may begin a construct of Markdown that the library does not know.
+ * A text is skipped where a line may begin a construct of Markdown that the library does not know. A `<` of a paragraph that a backslash escapes begins no
+ * piece; the standard's rule, by which a backslash and the punctuation behind it go together, is followed here for all readings, the scans not looking back.
  *
  * libcmark departs from CommonMark 0.31.2 in some places, the list `classes`, and there says nothing of the library. So there is a third reading, rules.h, by the
  * standard's rules with any of these departures. Without them it must find in every text what the library finds. Where libcmark finds something else, it must
@@ -135,6 +136,7 @@ static void add_piece(pieces *found, int is_block, size_t start, size_t stop) {
     found->count++;
 }
 
+/* Raw HTML, from the left; none begins at a byte that is escaped. */
 static void read_paragraph(const text *t, size_t start, size_t limit, unsigned by, pieces *found) {
     int no_instructions = 0;
     size_t index = start;
@@ -144,11 +146,14 @@ static void read_paragraph(const text *t, size_t start, size_t limit, unsigned b
         size_t autolink = opens && (by & AUTOLINKS) ? email_autolink(t, index, limit) : NONE;
         int is_tried = opens && autolink == NONE && !(is_instruction && no_instructions);
         size_t stop = is_tried ? inline_stop(t, start, limit, index, by, found) : NONE;
+        size_t escaped = escape(t, index, limit);
         if (stop != NONE) {
             add_piece(found, 0, index, stop);
             index = stop;
         } else if (autolink != NONE) {
             index = autolink;
+        } else if (escaped != NONE) {
+            index = escaped;
         } else {
             no_instructions = no_instructions || (is_instruction && (by & INSTRUCTION_PAIRS));
             index++;

@@ -1,6 +1,6 @@
 /*
- * The rules of CommonMark 0.31.2 for raw HTML (4.6 and 6.6), with any of the departures of libcmark. Each function that is named after a thing gives where that
- * stops, before a limit, or NONE.
+ * The rules of CommonMark 0.31.2 for raw HTML (4.6 and 6.6), with any of the departures of libcmark, and for backslash escapes (2.4). Each function that is
+ * named after a thing gives where that stops, before a limit, or NONE.
  */
 #ifndef RULES_H
 #define RULES_H
@@ -223,6 +223,15 @@ static size_t email_autolink(const text *t, size_t index, size_t limit) {
         stop = domain_label(t, stop + strlen("."), limit);
     }
     return stop != NONE && begins(t, stop, limit, ">") ? stop + strlen(">") : NONE;
+}
+
+/* A backslash escape, 2.4: of ASCII punctuation. A line ending behind a backslash makes a hard break, which is nothing to raw HTML. */
+static size_t escape(const text *t, size_t index, size_t limit) {
+    if (!begins(t, index, limit, "\\") || index + 1 == limit) {
+        return NONE;
+    }
+    uint8_t byte = t->bytes[index + 1];
+    return byte > ' ' && byte <= '~' && !is_letter(byte) && !is_digit(byte) ? index + strlen("\\<") : NONE;
 }
 
 /* Raw HTML, 6.6. */

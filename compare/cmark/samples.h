@@ -1,5 +1,5 @@
 /*
- * Random samples: texts of raw HTML and of what it is mistaken for. They have no backslash, backtick, `(`, NUL, or byte beyond ASCII.
+ * Random samples: texts of raw HTML and of what it is mistaken for. They have no backtick, `(`, NUL, or byte beyond ASCII.
  */
 #ifndef SAMPLES_H
 #define SAMPLES_H
@@ -48,57 +48,66 @@ static int once_in(size_t times) {
 #define MOST_ON_A_LINE 2
 #define MOST_LINES 8
 #define MOST_CHANGES 3
+#define MOST_BACKSLASHES 5
 
 static const char *const block_names[] = {FORINGAMO_BLOCK_NAMES, "source", "search", "div", "p"};
 static const char *const other_names[] = {"a", "b", "Z", "a-b", "x1", "a-", "h7", "pres", "styl", "divs", "sourced", "searc", "image", "1a", "-a", "a_", ""};
 
 static const char *const spaces[] = {"  ", "\t", "\n", "\n ", " \n", "\n\t", "", "\f", "\v", " \f\n"};
-static const char *const attribute_names[] = {"B1", "_", ":", "_c", "e.f", "g-h:i", "1b", "1", "-c", ".d", "b*", ""};
+static const char *const attribute_names[] = {"B1", "_", ":", "_c", "e.f", "g-h:i", "1b", "1", "-c", ".d", "b*", "", "\\", "c\\", "\\d"};
 static const char *const values[] = {
     "", "='v'", "=\"v\"", "=v", "=''", "=\"\"", "=\"v w\"", "='\"'", "=\"'\"", "='>'", "=\"<b>\"", "='\n'", "=\"/\"",
     "=/", "=/v", "=v/", "=v/w", "=http://v/w", " =v", "= v", " = 'v'", "\n=\nv", "\t=\t\"v\"", "=", " =", "= ", "==v", "=v=w", "=v'", "=v\"w",
     "='v", "=\"v", "='v'w", "=<", "=v<w", "=v;w", "=?", "=!-", "=\f", "=v\fw", "=v\vw", "=\v'v'",
+    "='\\'", "=\"\\\"", "='\\\\'", "='\\'v'", "=\"\\\"v\"", "='\\<b>'", "=\"\\>\"", "=\\", "=\\v", "=v\\", "=v\\\\", "=\\\"v\"", "\\=v", "=v\\<w",
 };
 static const char *const tag_ends[] = {
     ">", ">", ">", ">", "/>", " >", " />", "\n>", "\t/>", "/ >", "//>", "x>", "", "<", "=>", "\f>", "\v/>", "> ", ">\t", ">\f", ">\v",
+    "\\>", " \\>", "/\\>", "\\/>", ">\\", ">\\\n",
 };
 
 static const char *const comment_starts[] = {
     "<!--", "<!--", "<!--", "<!--a", "<!--a", "<!-- ", "<!-- ", "<!-- ", "<!--\n", "<!--\n", "<!-->", "<!--->", "<!---", "<!----", "<!-",
+    "<!--\\", "<!-\\-", "<!\\--", "<\\!--",
 };
 static const char *const comment_body[] = {
     "a", "a>", "<b>", " ", " ", " ", "-a", "- ", "<", "<!", "</", "!", "?>", "]]>", "\n", "\n", ">", "a->", "-", "--", "-->", "--!>", "<!--",
-    "@a>",
+    "@a>", "\\", "\\\\", "\\<b>", "\\-->", "\\>",
 };
 static const char *const comment_ends[] = {
     "-->", "-->", "-->", " -->", " -->", " -->", "a-->", "a-->", ">-->", "\n-->", "\n-->", "--->", "---->", "--", "->", "--!>", "",
+    "\\-->", "\\\\-->", "-\\->", "--\\>",
 };
-static const char *const instruction_starts[] = {"<?", "<?", "<?", "<?", "<?php ", "<? ", "< ?"};
-static const char *const instruction_body[] = {"?", "?a", "@a>", "??", ">", "a", " ", "<", "<?", "\n", "/", "?>"};
-static const char *const instruction_ends[] = {"?>", "?>", "?>", "?>", " ?>", "a?>", "?\?>", "??\?>", "?", ">", "? >", ""};
+static const char *const instruction_starts[] = {"<?", "<?", "<?", "<?", "<?php ", "<? ", "< ?", "<?\\", "<\\?"};
+static const char *const instruction_body[] = {"?", "?a", "@a>", "??", ">", "a", " ", "<", "<?", "\n", "/", "?>", "\\", "\\\\", "\\<?", "\\?>"};
+static const char *const instruction_ends[] = {"?>", "?>", "?>", "?>", " ?>", "a?>", "?\?>", "??\?>", "?", ">", "? >", "", "\\?>", "?\\>"};
 static const char *const cdata_starts[] = {
     "<![CDATA[", "<![CDATA[", "<![CDATA[", "<![CDATA[", "<![cdata[", "<![CdATA[", "<![CDATA", "<![CDA", "<![", "<!CDATA[", "<![CDATA[[",
+    "<![CDATA[\\", "<![CDATA\\[", "<!\\[CDATA[", "<\\![CDATA[",
 };
-static const char *const cdata_body[] = {"]", "]", "]]", "]]]", ">", "]>", "a", " ", "<", "[", "\n", "<![CDATA["};
-static const char *const cdata_ends[] = {"]]>", "]]>", "]]>", "]]>", "]]]>", "]]]]>", "]]]]]>", "]>", "]]", ">", ""};
+static const char *const cdata_body[] = {"]", "]", "]]", "]]]", ">", "]>", "a", " ", "<", "[", "\n", "<![CDATA[", "\\", "\\\\", "\\]]>", "\\<![CDATA["};
+static const char *const cdata_ends[] = {"]]>", "]]>", "]]>", "]]>", "]]]>", "]]]]>", "]]]]]>", "]>", "]]", ">", "", "\\]]>", "]\\]>", "]]\\>"};
 static const char *const declaration_starts[] = {
     "<!A ", "<!Z\n", "<!AZ\t", "<!DOCTYPE ", "<!ELEMENT ", "<!A", "<!a", "<!Z", "<!z ", "<!DOCTYPE", "<!doctype ", "<!1", "<!", "<!_", "<! A", "<!@", "<!{",
+    "<!A\\", "<!\\A ", "<\\!A ",
 };
-static const char *const declaration_body[] = {" ", "\t", "\n", " html", "a", "A", "1", "<", "'", "\"", "-", "@a", ".a", "\f"};
-static const char *const declaration_ends[] = {">", ">", ">", ">", " >", "\n>", ">>", ""};
+static const char *const declaration_body[] = {" ", "\t", "\n", " html", "a", "A", "1", "<", "'", "\"", "-", "@a", ".a", "\f", "\\", "\\\\", "\\<"};
+static const char *const declaration_ends[] = {">", ">", ">", ">", " >", "\n>", ">>", "", "\\>", "\\\\>"};
 
-static const char *const words[] = {"a", "b ", " c", "word ", "1", ".", "; ", " ", "&lt;", "&amp", "%", "$", "\n"};
+static const char *const words[] = {"a", "b ", " c", "word ", "1", ".", "; ", " ", "&lt;", "&amp", "%", "$", "\n", "\\", "\\\n", "\\\\\n", "\\a", "\\ "};
 static const char *const fragments[] = {
     "<", "<", "<", ">", ">", "/>", "</", "<!", "<!-", "--", "-", "?", "?>", "]]>", "]", "[", "=", "'", "\"", "/", "_", ":", "!", "\n", "\n", "\t", " ",
     "<a:b>", "<ab:c>", "<ab:?>", "<a@b.c>", "< a>", "<>", "</>", "</ a>", "<a<b>", "<a></a>", "</pre>", "</SCRIPT>", "</style >", "</textarea", "-->",
     "<?@c>", "<!a@b.c>", "<!--@b>", "</a@b>", "\f", "\v",
+    "\\", "\\\\", "\\<", "\\\\<", "\\\\\\<", "\\\\\\\\<", "\\\\\\\\\\<", "\\>", "\\&lt;", "&\\lt;", "\\*", "\\_", "\\[", "\\]", "!\\[", "\\=", "\\#", "\\-",
+    "1\\.", "<\\a>", "<a\\>", "<ab:\\>", "<ab:c\\d>", "<a\\@b.c>", "<a@b\\.c>", "\\<ab:c>", "\\<a@b.c>", "\\<?@c>", "\\<!a@b.c>", "<ab:\\><b>", "<a@b.c>\\<b>",
 };
 static const char *const indentations[] = {" ", "  ", "   ", "   ", "    ", "\t", " \t", "\f"};
 static const char *const closers[] = {
     "-->", "--->", "?>", "?\?>", ">", "]]>", "]]]>", "</pre>", "</PRE>", "</script>", "</style>", "</Textarea>", "</pre >", "</pre", "</a>", "</div>",
-    "a-->", "a ?>", "a]]>",
+    "a-->", "a ?>", "a]]>", "\\-->", "\\?>", "\\>", "\\]]>", "\\</pre>", "<\\/pre>", "</pre\\>",
 };
-static const char changes[] = "<>!-?[]/='\" \t\n\f\vaAbZ1_:.@";
+static const char changes[] = "<>!-?[]/='\" \t\n\f\vaAbZ1_:.@\\";
 
 /* A name, now and then all or one of it in capitals. */
 static void add_name(text *t, const char *name) {
@@ -201,6 +210,14 @@ static maker *const openings[] = {
     closer, closer,
 };
 
+/* A construct, now and then behind backslashes. */
+static void add_construct(text *t, maker *const *list, size_t choices) {
+    for (size_t count = once_in(SELDOM) ? 1 + below(MOST_BACKSLASHES) : 0; count > 0; count--) {
+        add(t, "\\");
+    }
+    list[below(choices)](t);
+}
+
 /* Some bytes deleted, changed, put in or said twice. */
 static void change(text *t) {
     for (size_t count = below(MOST_CHANGES + 1); count > 0 && t->length > 0 && t->length < ROOM; count--) {
@@ -250,10 +267,11 @@ static void add_lines(text *t) {
     for (size_t number = 1; number <= lines; number++) {
         if (!once_in(SELDOM)) {
             add(t, once_in(SOMETIMES) ? ONE(indentations) : "");
-            ONE(openings)(t);
+            add_construct(t, openings, COUNT_OF(openings));
             for (size_t count = once_in(HALF) ? below(MOST_ON_A_LINE + 1) : 0; count > 0; count--) {
-                ONE(constructs)(t);
+                add_construct(t, constructs, COUNT_OF(constructs));
             }
+            add(t, once_in(SELDOM) ? "\\" : "");
         } else if (once_in(SOMETIMES)) {
             add(t, ONE(indentations));
         }
@@ -269,7 +287,7 @@ static void make_sample(int kind, sample *s) {
     t->length = 0;
     if (kind == INLINE_TEXTS) {
         for (size_t count = 1 + below(MOST_CONSTRUCTS); count > 0; count--) {
-            ONE(constructs)(t);
+            add_construct(t, constructs, COUNT_OF(constructs));
         }
     } else {
         add_lines(t);
