@@ -5,7 +5,7 @@ use crate::{to_hex, words};
 use reference::{block, inline, trace_block, trace_inline};
 
 /// Inline scans: text, index, carry, answer.
-const INLINE: [(&str, usize, usize, &str); 34] = [
+const INLINE: [(&str, usize, usize, &str); 37] = [
     // html_text.rs: found.
     ("<!-->", 0, 0, "found 5 0"),
     ("<!--->", 0, 0, "found 6 0"),
@@ -45,10 +45,14 @@ const INLINE: [(&str, usize, usize, &str); 34] = [
     ("<a b=//>", 0, 0, "found 8 0"),
     ("<a/>", 0, 0, "found 4 0"),
     ("<a/ >", 0, 0, "none 0 0"),
+    // A backslash is a byte as any other, also before the index.
+    ("\\<b>", 1, 0, "found 4 0"),
+    ("\\<b>", 0, 0, "none 0 0"),
+    ("<a b='\\'>", 0, 0, "found 9 0"),
 ];
 
 /// Block scans: bulletin, flags, index, answer (kind, stop, closed).
-const BLOCK: [(&str, &[u8], usize, &str); 69] = [
+const BLOCK: [(&str, &[u8], usize, &str); 71] = [
     // html_flow.rs: kinds.
     ("<pre\nx", &[0, 0], 0, "1 6 0"),
     ("<!--\nx", &[0, 0], 0, "2 6 0"),
@@ -129,6 +133,9 @@ const BLOCK: [(&str, &[u8], usize, &str); 69] = [
     ("x\n", &[0, 0], 2, "0 2 0"),
     ("", &[0], 0, "0 0 0"),
     ("\r\n", &[0, 0], 0, "0 0 0"),
+    // A backslash at the end of the line before, and as the first byte.
+    ("\\\n<p>", &[0, 0], 2, "6 5 0"),
+    ("\\<p>", &[0], 0, "0 0 0"),
 ];
 
 /// Where the closer begins (02, Ask 2): bulletin, flags, first byte of the closer
