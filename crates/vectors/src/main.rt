@@ -34,6 +34,11 @@
 // withholding (`W`); then each of the eight places where the readings part (also by `c`), `<a>` with flags 0 to 3, `<![` and what begins so with carries 0 to 6, and
 // the refusals. The answers are those of a model of 4.6 and 6.6 of CommonMark 0.31.2 that was made for them, of regular expressions and 01's flags and stops; of
 // the first 726 they are the answers above but in 36, where one of the eight applies.
+//
+// 416 of backslashes, for 02, Ask 6: 180 of withholding in either reading (`w`, `W`), runs of 0 to 5 before a tag, a comment and `<![CDATA[`, at the start of a
+// bulletin, behind a blank line, CR, CR LF, LF, a word and a piece; before the other forms; what breaks a run; backslashes inside of pieces, and pieces inside of a
+// tag that is not tried; and block openings. 56 of the tag filter (`g`), runs in a paragraph and in blocks. The answers are those of a model that was made for them, of
+// regular expressions and a count of the backslashes back to the paragraph's start or the last piece.
 #![tactic(auto)]
 
 use std::io;
