@@ -201,7 +201,8 @@ fn filtered_tag(random: &mut Random, text: &mut Vec<u8>) {
 }
 
 /// One text in three with runs of backslashes put in, most before a `<`. One that
-/// is about as long as is allowed stays as long.
+/// is about as long as is allowed stays as long. What is recorded (record.rs) does
+/// without: to the scans a backslash is a byte as any other.
 pub fn with_backslashes(random: &mut Random, text: Vec<u8>) -> Vec<u8> {
     if !random.once_in(3) {
         return text;
