@@ -83,8 +83,10 @@ verdict() {
     said=$(grep -F -m 1 "must-fail $1/$2: " "$logs/$1.log")
     said=${said#*"must-fail $1/$2: "}
     case $said in
-    # (a shape of it that `rt` does not tell apart)
-    'refused, as it must be: '*proofs/*'is not a field of '*) echo "it is refused only because a proof file names what is gone: $said" ;;
+    # (two forms of it that `rt` does not tell apart)
+    'refused, as it must be: '*proofs/*'is not a field of '* | 'refused, as it must be: '*proofs/*'`: record `'*)
+        echo "only a proof file is shown that names what is gone: $said"
+        ;;
     'refused, as it must be: '*) ;;
     'refused, as it must be') echo 'it is refused, and no fact is named' ;;
     '') echo 'it was not tried' ;;
