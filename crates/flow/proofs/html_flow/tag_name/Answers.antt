@@ -35,8 +35,11 @@ returns-then-slash c = let a = c.args in
     let name = c.from_indices-name.ensures ∙ name-cut line a.at end ends in
     let place = c.raw_place-raw.ensures ∙ ap rawPlace name in
     let slash = ap (λ (x : ℕ). eqb x 47) (sym c.peek-slash.ensures) in
-    let basic = c.block_place-basic.ensures ∙ ap blockPlace name in record { kind = c.basic_self_closing.ensures.kind
-          ∙ sym (block-name line a.at end ends a.rules a.flag a.closing _ _ (sym c.is_name_break.ensures ∙ c.if-not-is_name_break.false) (raw-place-is _ _ place) slash c.if-is_raw-closing.false (block-place-is _ _ basic ∙ rw (ne_eqb _ _ c.if-basic.true)) ∙ rw (eq-eqb _ _ c.if-slash.true)); names = c.basic_self_closing.ensures.names_basic _ basic }
+    let basic = c.block_place-basic.ensures ∙ ap blockPlace name in record {
+      kind = c.basic_self_closing.ensures.kind
+          ∙ sym (block-name line a.at end ends a.rules a.flag a.closing _ _ (sym c.is_name_break.ensures ∙ c.if-not-is_name_break.false) (raw-place-is _ _ place) slash c.if-is_raw-closing.false (block-place-is _ _ basic ∙ rw (ne_eqb _ _ c.if-basic.true)) ∙ rw (eq-eqb _ _ c.if-slash.true));
+      names = c.basic_self_closing.ensures.names_basic _ basic;
+    }
 
 pub returns-then-basic : goal.returns-then-basic
 returns-then-basic c = let a = c.args in
@@ -57,5 +60,8 @@ returns c = let a = c.args in
     let name = c.from_indices-name.ensures ∙ name-cut line a.at end ends in
     let place = c.raw_place-raw.ensures ∙ ap rawPlace name in
     let slash = ap (λ (x : ℕ). eqb x 47) (sym c.peek-slash.ensures) in
-    let basic = c.block_place-basic.ensures ∙ ap blockPlace name in record { kind = c.complete.ensures.kind
-          ∙ sym (other-name line a.at end ends a.rules a.flag a.closing _ _ (sym c.is_name_break.ensures ∙ c.if-not-is_name_break.false) (raw-place-is _ _ place) slash c.if-is_raw-closing.false (block-place-is _ _ basic ∙ rw c.if-basic.false)); names = c.complete.ensures.unnamed _ }
+    let basic = c.block_place-basic.ensures ∙ ap blockPlace name in record {
+      kind = c.complete.ensures.kind
+          ∙ sym (other-name line a.at end ends a.rules a.flag a.closing _ _ (sym c.is_name_break.ensures ∙ c.if-not-is_name_break.false) (raw-place-is _ _ place) slash c.if-is_raw-closing.false (block-place-is _ _ basic ∙ rw c.if-basic.false));
+      names = c.complete.ensures.unnamed _;
+    }
