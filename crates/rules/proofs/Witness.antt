@@ -1,7 +1,7 @@
 -- The tables of specs/Witness.antt and specs/Counterexamples.antt, said of the statements. A row's tests are the premises of demand 3 one by one, so that a row
 -- which meets them is a swap. A test that tells two answers or two texts apart passes a thing and itself, so what it tells apart is not equal.
 use mathlib.Core.Path.{◌≡◌, refl}
-use mathlib.Core.Bool.{Bool, true, false, ◌&&◌, not}
+use mathlib.Core.Bool.{Bool, true, ◌&&◌, not}
 use mathlib.Core.List.{List, [], ◌∷◌, ◌++◌}
 use Prim.Native.Nat.{ℕ}
 use lib.Dec.{eqb}

@@ -9,7 +9,7 @@ use Rattle.lexical.specs.declared.event.Point.{Point}
 use Rattle.rules.specs.Search.{choose}
 use Rattle.rules.specs.Lines.{Line, cutLines}
 use Rattle.rules.specs.Block.{indentation}
-use Rattle.rules.specs.Scan.{InlineAnswer, foundInline, noInline, refusedInline, Found, BlockAnswer, foundBlock, noBlock, refusedBlock}
+use Rattle.rules.specs.Scan.{InlineAnswer, foundInline, noInline, refusedInline, BlockAnswer, foundBlock, noBlock, refusedBlock}
 
 -- ---- bytes
 -- line, column, index and stop have two bytes each, low first

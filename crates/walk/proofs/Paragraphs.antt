@@ -16,7 +16,7 @@ use Rattle.lexical.specs.Line.{lineEnding, lineLength, isBlank}
 use Rattle.lexical.proofs.Cases.{split, clash, and-left, and-right, or-left, or-right}
 use Rattle.lexical.proofs.Suffix.{suffix-next, drop-take, parts}
 use Rattle.lexical.proofs.Ending.{ending-out}
-use Rattle.rules.specs.Lines.{Line, line}
+use Rattle.rules.specs.Lines.{Line}
 use Rattle.rules.specs.Block.{kindOf}
 use Rattle.rules.specs.Withhold.{Piece, marks, goesOn, oddBehind, inlinePieces, linePieces}
 use Rattle.rules.specs.declared.Rules.{Rules}

@@ -1,5 +1,5 @@
 -- Each return is one case of the recursion in specs/ContinuationMachine.antt.
-use Rattle.std.proofs.Common.{◌<◌, sym, ◌∙◌, ap}
+use Rattle.std.proofs.Common.{sym, ◌∙◌, ap}
 use Rattle.lexical.specs.Name.{isRawName}
 use Rattle.lexical.proofs.Names.{raw-place-is}
 use Rattle.flow.proofs.RawEnd.{at-end, at-mark, at-letter, at-last, at-other}

@@ -1,7 +1,6 @@
 use mathlib.Core.Path.{refl, sym, ◌∙◌, ap}
 use Rattle.rules.specs.Block.{tagName}
 use Rattle.flow.proofs.OpenSteps.{renamed, before-out, before-other, before-in, marked}
-use borrow.Author.Rules.{rules}
 use Rattle.flow.proofs.html_flow.before.Goals as goal
 
 pub returns-then-at-line : goal.returns-then-at-line

@@ -2,7 +2,6 @@ use lib.ListN.{drop}
 use mathlib.Core.Path.{refl, sym, ◌∙◌}
 use mathlib.Core.Bool.{true, false}
 use Rattle.flow.proofs.OpenSteps.{may-not, closing-tag, open-tag, raw-tag}
-use borrow.Author.Rules.{rules}
 use Rattle.flow.proofs.html_flow.complete.Goals as goal
 
 pub returns-then-not-may_start : goal.returns-then-not-may_start

@@ -1,5 +1,4 @@
 use mathlib.Core.Path.{refl, sym, ◌∙◌}
-use Prim.Native.Nat.{◌-◌}
 use Rattle.flow.specs.Answer.{kindNumber}
 use Rattle.flow.proofs.BlockSteps.{next-flags, text-over, same-from, line-ends, line-closes, line-on, next-within}
 use borrow.Author.Rules.{rules}

@@ -3,7 +3,6 @@ use Prim.Native.Nat.{◌-◌}
 use lib.ListN.{length}
 use Rattle.flow.specs.Answer.{kindNumber}
 use Rattle.flow.specs.BlockMachine.{continuationStartOf}
-use borrow.Author.Rules.{rules}
 use Rattle.flow.proofs.html_flow.continuation_start.Given as goal
 
 abbrev pub invariant-loop-stop : goal.invariant-loop-stop

@@ -4,7 +4,6 @@ use mathlib.Core.Path.{◌≡◌}
 use lib.ListN.{length, drop}
 use Rattle.flow.specs.ContinuationMachine.{closerStart, closedAt}
 use Rattle.flow.proofs.ContinuationTurn.{seen}
-use borrow.Author.Rules.{rules}
 use Rattle.flow.proofs.html_flow.find_closer.Given as goal
 
 abbrev pub invariant-loop-i : goal.invariant-loop-i

@@ -1,5 +1,4 @@
 use mathlib.Core.Path.{sym, ◌∙◌}
-use Prim.Native.Nat.{◌-◌}
 use native.Mathlib.Omega.{arith}
 use Rattle.rules.specs.Block.{isRawEnd}
 use Rattle.rules.proofs.Past.{first-here, first-on, first-out}

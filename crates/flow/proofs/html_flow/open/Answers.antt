@@ -1,7 +1,6 @@
 use mathlib.Core.Path.{refl, sym, ◌∙◌}
 use mathlib.Core.Bool.{true, false}
 use Rattle.flow.proofs.OpenSteps.{renamed, open-out, open-mark, open-slash, open-question, open-name, name-slash, name-here}
-use borrow.Author.Rules.{rules}
 use Rattle.flow.proofs.html_flow.open.Goals as goal
 
 pub returns-then-at-line : goal.returns-then-at-line

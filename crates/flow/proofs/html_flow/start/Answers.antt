@@ -6,7 +6,6 @@ use lib.ListN.{drop}
 use Rattle.rules.specs.Lines.{line}
 use Rattle.rules.specs.Block.{indentation, kindAt, tagName, placeOf}
 use Rattle.flow.proofs.OpenSteps.{renamed, too-deep, not-deep}
-use borrow.Author.Rules.{rules}
 use Rattle.flow.proofs.html_flow.start.Goals as goal
 
 pub returns-then-indent-gt3 : goal.returns-then-indent-gt3

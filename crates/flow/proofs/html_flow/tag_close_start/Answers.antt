@@ -1,7 +1,6 @@
 use mathlib.Core.Path.{refl, sym, ◌∙◌}
 use mathlib.Core.Bool.{true, false}
 use Rattle.flow.proofs.OpenSteps.{close-out, close-in}
-use borrow.Author.Rules.{rules}
 use Rattle.flow.proofs.html_flow.tag_close_start.Goals as goal
 
 pub returns-then-at-line : goal.returns-then-at-line

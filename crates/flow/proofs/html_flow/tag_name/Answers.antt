@@ -7,7 +7,6 @@ use Rattle.lexical.specs.Name.{blockPlace, rawPlace}
 use Rattle.lexical.proofs.Names.{block-place-is, raw-place-is}
 use Rattle.rules.proofs.NameLaws.{name-cut}
 use Rattle.flow.proofs.NameSteps.{no-break, raw-name, block-name, other-name}
-use borrow.Author.Rules.{rules}
 use Rattle.flow.proofs.html_flow.tag_name.Goals as goal
 
 pub returns-then-not-is_name_break : goal.returns-then-not-is_name_break

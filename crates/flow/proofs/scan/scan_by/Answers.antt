@@ -12,7 +12,6 @@ use Rattle.rules.specs.Refusal.{Check, refusal, tooLong, wrongCount, wrongFlag, 
 use Rattle.rules.specs.Scan.{BlockAnswer, refusedBlock, linesAt, blockOf, blockAt, blockScan}
 use Rattle.rules.specs.declared.Rules.{Rules}
 use Rattle.rules.proofs.Refusals.{applies, passes, no-more, refused-front, passed-front, decided, refuses, answers}
-use borrow.Author.Rules.{rules}
 use Rattle.flow.proofs.scan.scan_by.Goals as goal
 
 module _ (ρ : Rules) (text flags : List ℕ) (i : ℕ) where

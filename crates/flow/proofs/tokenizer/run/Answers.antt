@@ -1,4 +1,3 @@
-use Prim.Native.Nat.{◌-◌}
 use mathlib.Core.Path.{refl, sym, ◌∙◌}
 use Rattle.flow.specs.declared.tokenizer.State.TheVariants.{Next, Ok, Nok}
 use Rattle.flow.proofs.Turn.{turn, ended}

@@ -2,7 +2,6 @@ use Prim.Native.Nat.{◌-◌}
 use mathlib.Core.Path.{◌≡◌}
 use lib.ListN.{length, drop}
 use Rattle.flow.specs.CompleteMachine.{runOf}
-use borrow.Author.Rules.{rules}
 use Rattle.flow.proofs.tokenizer.run.Given as goal
 
 abbrev pub invariant-loop-index : goal.invariant-loop-index

@@ -1,5 +1,4 @@
 use mathlib.Core.Path.{sym, ◌∙◌}
-use Prim.Native.Nat.{◌-◌}
 use Rattle.rules.specs.Refusal.{blankFollows}
 use Rattle.rules.proofs.Past.{somewhere-in, somewhere-out}
 use Rattle.html.proofs.Blank.{blank-behind}

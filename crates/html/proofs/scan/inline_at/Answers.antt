@@ -1,7 +1,6 @@
 use mathlib.Core.Path.{◌∙◌}
 use native.Mathlib.Omega.{arith}
 use Rattle.html.proofs.Kept.{either-carry, no-carry}
-use borrow.Author.Rules.{rules}
 use Rattle.html.proofs.scan.inline_at.Goals as goal
 
 pub returns : goal.returns

@@ -7,7 +7,6 @@ use Rattle.rules.specs.Scan.{refusedInline, inlineAt, inlineScan}
 use Rattle.rules.specs.declared.Rules.{Rules}
 use Rattle.rules.proofs.Refusals.{not-met}
 use Rattle.html.proofs.Kept.{either-carry}
-use borrow.Author.Rules.{rules}
 use Rattle.html.proofs.scan.scan_by.Goals as goal
 
 module _ (ρ : Rules) (text : List ℕ) (i k n : ℕ) (e : n ≡ inlineRefusal text i k) where

@@ -1,4 +1,3 @@
-use Prim.Native.Nat.{◌-◌}
 use mathlib.Core.Path.{refl, sym, ◌∙◌, ap}
 use lib.ListN.{length}
 use Rattle.rules.specs.Scan.{inlineAnswer}

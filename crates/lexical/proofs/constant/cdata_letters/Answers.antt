@@ -1,4 +1,4 @@
-use Rattle.std.proofs.Common.{◌≡◌, ℕ, ◌-◌, List, length, drop, sym, refl, ap, ◌∙◌, arith}
+use Rattle.std.proofs.Common.{◌≡◌, ℕ, List, length, drop, sym, refl, ap, ◌∙◌, arith}
 use Rattle.lexical.specs.Name.{cdataPrefix, cdataLetters}
 use Rattle.lexical.proofs.Prefix.{counted, counted-all, counted-out, counted-next, counted-unlike, cdata-size}
 use Rattle.lexical.proofs.constant.cdata_letters.Goals as goal

@@ -1,4 +1,4 @@
-use Rattle.std.proofs.Common.{◌≡◌, ◌+◌, ◌-◌, sym, ◌∙◌, arith, rules}
+use Rattle.std.proofs.Common.{◌≡◌, ◌+◌, sym, ◌∙◌, arith, rules}
 use Rattle.lexical.proofs.Names.{rises, within-table, hit, miss, no-more}
 use Rattle.lexical.proofs.constant.place_of.Goals as goal
 

@@ -1,4 +1,4 @@
-use Rattle.std.proofs.Common.{◌-◌, sym, refl, ◌∙◌, arith, rules}
+use Rattle.std.proofs.Common.{sym, refl, ◌∙◌, arith, rules}
 use lib.ListN.{length-map}
 use Rattle.lexical.specs.Byte.{lower}
 use Rattle.lexical.proofs.Same.{same-unlike, same-next, same-stop, same-end}

@@ -1,4 +1,4 @@
-use Rattle.std.proofs.Common.{◌-◌, sym, refl, ap, ◌∙◌, add-zero}
+use Rattle.std.proofs.Common.{sym, refl, ap, ◌∙◌, add-zero}
 use Rattle.lexical.specs.Buffer.{stored}
 use Rattle.lexical.proofs.Stores.{copy-turn, copy-end, same-set}
 use Rattle.lexical.proofs.copy.copy.Goals as goal

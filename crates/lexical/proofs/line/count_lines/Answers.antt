@@ -1,4 +1,4 @@
-use Rattle.std.proofs.Common.{◌+◌, ◌-◌, true, false, not, drop, sym, ◌∙◌, arith, length-drop}
+use Rattle.std.proofs.Common.{◌+◌, true, false, not, drop, sym, ◌∙◌, arith, length-drop}
 use Rattle.lexical.specs.Byte.{isLineEndingByte}
 use Rattle.lexical.specs.Line.{lines}
 use Rattle.lexical.proofs.Run.{run-length}

@@ -1,4 +1,4 @@
-use Rattle.std.proofs.Common.{◌-◌, sym, ◌∙◌}
+use Rattle.std.proofs.Common.{sym, ◌∙◌}
 use Rattle.lexical.specs.Line.{isInner}
 use Rattle.lexical.proofs.Run.{run-on, run-stop, run-over}
 use Rattle.lexical.proofs.line.mark_or_line_end.Goals as goal

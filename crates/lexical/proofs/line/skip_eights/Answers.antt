@@ -1,4 +1,4 @@
-use Rattle.std.proofs.Common.{◌-◌, sym, refl, ◌∙◌, arith}
+use Rattle.std.proofs.Common.{sym, refl, ◌∙◌, arith}
 use Rattle.lexical.specs.Line.{isInner}
 use Rattle.lexical.proofs.Run.{run-many}
 use Rattle.lexical.proofs.line.skip_eights.Goals as goal

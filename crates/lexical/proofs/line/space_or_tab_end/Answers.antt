@@ -1,4 +1,4 @@
-use Rattle.std.proofs.Common.{◌-◌, sym, refl, ◌∙◌}
+use Rattle.std.proofs.Common.{sym, refl, ◌∙◌}
 use Rattle.lexical.specs.Byte.{isSpaceOrTab}
 use Rattle.lexical.proofs.Run.{run-on, run-stop, run-over}
 use Rattle.lexical.proofs.line.space_or_tab_end.Goals as goal

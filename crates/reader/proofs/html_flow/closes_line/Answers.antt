@@ -4,7 +4,6 @@ use Rattle.rules.specs.Block.{beforeCloser}
 use Rattle.rules.proofs.BlockLaws.{closes-not}
 use Rattle.flow.specs.declared.html_flow.Kind.TheVariants.{Comment, Instruction, Declaration, Cdata}
 use Rattle.flow.proofs.ContinuationMeans.{finds-comment, finds-instruction, finds-declaration, finds-cdata, meets}
-use borrow.Author.Rules.{rules}
 use Rattle.reader.proofs.html_flow.closes_line.Goals as goal
 
 pub returns-in-Comment : goal.returns-in-Comment

@@ -1,4 +1,3 @@
-use Prim.Native.Nat.{◌-◌}
 use mathlib.Core.Path.{refl, sym, ◌∙◌, ap}
 use Rattle.flow.proofs.ContinuationTurn.{met, turn, ended}
 use Rattle.reader.specs.Lent.{lineOf}

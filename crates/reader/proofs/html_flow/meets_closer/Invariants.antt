@@ -3,7 +3,6 @@ use Prim.Native.Nat.{◌-◌}
 use mathlib.Core.Path.{◌≡◌}
 use lib.ListN.{length, drop}
 use Rattle.flow.specs.ContinuationMachine.{meetsOf}
-use borrow.Author.Rules.{rules}
 use Rattle.reader.proofs.html_flow.meets_closer.Given as goal
 
 abbrev pub invariant-loop-i : goal.invariant-loop-i

@@ -1,7 +1,6 @@
 use mathlib.Core.Path.{sym, ◌∙◌, ap}
 use Rattle.lexical.specs.Text.{pick}
 use Rattle.html.proofs.Kept.{either-carry}
-use borrow.Author.Rules.{rules}
 use Rattle.reader.proofs.html_text.inline_at.Goals as goal
 
 pub returns-then-rules : goal.returns-then-rules

@@ -3,7 +3,6 @@ use Prim.Native.Nat.{◌-◌}
 use mathlib.Core.Path.{◌≡◌}
 use lib.ListN.{length, drop}
 use Rattle.html.specs.TextMachine.{runOf}
-use borrow.Author.Rules.{rules}
 use Rattle.reader.proofs.html_text.run.Given as goal
 
 abbrev pub invariant-loop-index : goal.invariant-loop-index

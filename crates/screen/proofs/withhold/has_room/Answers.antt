@@ -5,7 +5,6 @@ use lib.ListN.{length}
 use Rattle.rules.specs.Withhold.{shown}
 use borrow.Author.Tests.{le-leb}
 use Rattle.screen.proofs.Withholding.{shown-length}
-use borrow.Author.Rules.{rules}
 use Rattle.screen.proofs.withhold.has_room.Goals as goal
 
 pub returns-then-bulletin-room : goal.returns-then-bulletin-room

@@ -1,5 +1,4 @@
 use mathlib.Core.Path.{sym, subst}
-use Prim.Native.Nat.{◌-◌}
 use native.Mathlib.Omega.{arith}
 use Rattle.walk.specs.Remaining.{Goes, remaining}
 use Rattle.walk.proofs.Walk.{Counting, counting-start, counting-on, number-bound, within, from-to, showing-start}

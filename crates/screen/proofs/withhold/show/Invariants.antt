@@ -2,7 +2,6 @@ use Prim.Native.Nat.{◌-◌}
 use lib.ListN.{length}
 use Rattle.walk.proofs.Walk.{Counting}
 use Rattle.screen.proofs.Withholding.{ShownUpTo}
-use borrow.Author.Rules.{rules}
 use Rattle.screen.proofs.withhold.show.Given as goal
 
 abbrev pub invariant-loop-from : goal.invariant-loop-from

@@ -1,7 +1,6 @@
 use Prim.Native.Nat.{◌-◌}
 use lib.ListN.{length}
 use Rattle.screen.proofs.Withholding.{LengthUpTo}
-use borrow.Author.Rules.{rules}
 use Rattle.screen.proofs.withhold.shown_length.Given as goal
 
 abbrev pub invariant-loop-from : goal.invariant-loop-from

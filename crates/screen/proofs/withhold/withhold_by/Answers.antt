@@ -1,7 +1,6 @@
 use mathlib.Core.Path.{sym, ◌∙◌}
 use borrow.Author.Tests.{leb-true}
 use Rattle.screen.proofs.Answers.{refused-reads, refused-room, shown-all}
-use borrow.Author.Rules.{rules}
 use Rattle.screen.proofs.withhold.withhold_by.Goals as goal
 
 pub returns-then-refusal-ne0 : goal.returns-then-refusal-ne0

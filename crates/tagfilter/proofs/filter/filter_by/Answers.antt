@@ -4,7 +4,6 @@ use borrow.Author.Tests.{leb-true, leb-false}
 use Rattle.rules.specs.Filter.{filtered}
 use Rattle.rules.proofs.Outputs.{read-refused, not-written, fits}
 use Rattle.tagfilter.proofs.Filtering.{answered, within-limit}
-use borrow.Author.Rules.{rules}
 use Rattle.tagfilter.proofs.filter.filter_by.Goals as goal
 
 pub returns-then-refusal-ne0 : goal.returns-then-refusal-ne0

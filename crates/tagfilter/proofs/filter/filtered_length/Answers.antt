@@ -1,5 +1,4 @@
 use mathlib.Core.Path.{sym, subst}
-use Prim.Native.Nat.{◌-◌}
 use native.Mathlib.Omega.{arith}
 use Rattle.lexical.specs.Text.{limit}
 use Rattle.rules.specs.Filter.{filtered}
@@ -8,7 +7,6 @@ use Rattle.walk.proofs.Walk.{walking-start, within, from-to, size-is}
 use Rattle.walk.proofs.Replacing.{output, copied-bound, copied-end}
 use Rattle.tagfilter.proofs.Bound.{filtered-bound}
 use Rattle.tagfilter.proofs.Filtering.{filtering, LengthUpTo, length-on, size-bound}
-use borrow.Author.Rules.{rules}
 use Rattle.tagfilter.proofs.filter.filtered_length.Goals as goal
 
 pub loop-from-init : goal.loop-from-init

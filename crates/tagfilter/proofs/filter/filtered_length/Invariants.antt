@@ -3,7 +3,6 @@
 use Prim.Native.Nat.{◌-◌}
 use lib.ListN.{length}
 use Rattle.tagfilter.proofs.Filtering.{LengthUpTo}
-use borrow.Author.Rules.{rules}
 use Rattle.tagfilter.proofs.filter.filtered_length.Given as goal
 
 abbrev pub invariant-loop-from : goal.invariant-loop-from

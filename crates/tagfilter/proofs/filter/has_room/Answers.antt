@@ -6,7 +6,6 @@ use borrow.Author.Tests.{le-leb}
 use Rattle.lexical.specs.Text.{limit}
 use Rattle.rules.specs.Filter.{filtered}
 use Rattle.tagfilter.proofs.Bound.{filtered-bound}
-use borrow.Author.Rules.{rules}
 use Rattle.tagfilter.proofs.filter.has_room.Goals as goal
 
 pub overflow_mul-bulletin : goal.overflow_mul-bulletin

@@ -2,7 +2,6 @@
 use Prim.Native.Nat.{◌-◌}
 use lib.ListN.{length}
 use Rattle.tagfilter.proofs.Filtering.{ShownUpTo}
-use borrow.Author.Rules.{rules}
 use Rattle.tagfilter.proofs.filter.show.Given as goal
 
 abbrev pub invariant-loop-from : goal.invariant-loop-from

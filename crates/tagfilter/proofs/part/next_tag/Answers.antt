@@ -1,5 +1,5 @@
 use mathlib.Core.Path.{sym, ◌∙◌}
-use Prim.Native.Nat.{◌+◌, ◌-◌}
+use Prim.Native.Nat.{◌+◌}
 use native.Mathlib.Omega.{arith}
 use Rattle.tagfilter.proofs.Parts.{passed-on, passed-plain, passed-one}
 use Rattle.tagfilter.proofs.part.next_tag.Goals as goal

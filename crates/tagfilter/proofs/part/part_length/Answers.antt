@@ -1,4 +1,3 @@
-use Prim.Native.Nat.{◌-◌}
 use native.Mathlib.Omega.{arith}
 use Rattle.lexical.specs.Text.{limit}
 use Rattle.tagfilter.proofs.Parts.{counted-start, counted-on, counted-bound, counted-end}

@@ -1,4 +1,3 @@
-use Prim.Native.Nat.{◌-◌}
 use native.Mathlib.Omega.{arith}
 use Rattle.lexical.proofs.Stores.{same}
 use Rattle.tagfilter.proofs.Parts.{up-to-start, same-room, room-here, tag-written, room-behind, rest-written}

@@ -1,5 +1,4 @@
 use mathlib.Core.Path.{sym, ◌∙◌}
-use Prim.Native.Nat.{◌-◌}
 use native.Mathlib.Omega.{arith}
 use Rattle.trace.proofs.Turns.{left-start, left-on, left-room, left-none, further, met}
 use Rattle.rules.proofs.Cut.{to-within}

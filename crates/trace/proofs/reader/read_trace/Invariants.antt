@@ -1,5 +1,5 @@
 -- The invariant: what is left to read from here on is what was asked for.
-use Prim.Native.Nat.{◌-◌, ◌≤◌}
+use Prim.Native.Nat.{◌≤◌}
 use mathlib.Core.Path.{◌≡◌}
 use lib.ListN.{length, drop}
 use Rattle.rules.specs.Trace.{width, readTrace}

@@ -1,6 +1,5 @@
 use Rattle.lexical.proofs.Stores.{same-set}
 use Rattle.trace.proofs.Stores.{field-turn, field-end, field-start}
-use Prim.Native.Nat.{◌-◌}
 use mathlib.Core.Path.{refl, sym, ◌∙◌}
 use Rattle.trace.proofs.writer.write_field.Goals as goal
 

@@ -1,5 +1,4 @@
 use mathlib.Core.Path.{sym, ◌∙◌}
-use Prim.Native.Nat.{◌-◌}
 use native.Mathlib.Omega.{arith}
 use Rattle.walk.proofs.Begins.{begins-start, begins-next, begins-unlike, begins-out, begins-end}
 use Rattle.walk.proofs.closers.begins_with.Goals as goal

@@ -3,7 +3,6 @@ use Rattle.html.specs.Answer.{inlineOf}
 use Rattle.walk.specs.Closer.{isAhead, without}
 use Rattle.walk.specs.Remaining.{Lacked}
 use Rattle.walk.proofs.InlineSteps.{not-read, took, lacked, none-refused}
-use borrow.Author.Rules.{rules}
 use Rattle.walk.proofs.paragraph.attempt.Goals as goal
 
 pub returns-then-not-is_ahead : goal.returns-then-not-is_ahead

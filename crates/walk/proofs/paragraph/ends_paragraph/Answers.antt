@@ -4,7 +4,6 @@ use Rattle.lexical.proofs.Cases.{clash}
 use Rattle.flow.specs.Answer.{blockAnswerOf}
 use Rattle.walk.proofs.BlockLines.{opens, never-refused}
 use Rattle.walk.proofs.Paragraphs.{ends-by}
-use borrow.Author.Rules.{rules}
 use Rattle.walk.proofs.paragraph.ends_paragraph.Goals as goal
 
 pub returns-then-is_blank : goal.returns-then-is_blank

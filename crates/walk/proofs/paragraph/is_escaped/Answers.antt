@@ -1,4 +1,4 @@
-use Rattle.std.proofs.Common.{◌-◌, sym, ◌∙◌, arith}
+use Rattle.std.proofs.Common.{sym, ◌∙◌, arith}
 use Rattle.walk.proofs.Escapes.{turns, ends, starts}
 use Rattle.walk.proofs.paragraph.is_escaped.Goals as goal
 

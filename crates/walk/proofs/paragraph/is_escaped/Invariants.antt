@@ -1,5 +1,5 @@
 -- The invariant: the run between here and the index turns what is behind here once for each of its backslashes.
-use Rattle.std.proofs.Common.{◌≡◌, ◌≤◌, ◌-◌}
+use Rattle.std.proofs.Common.{◌≡◌, ◌≤◌}
 use Rattle.walk.proofs.Escapes.{behindFrom, turned}
 use Rattle.walk.proofs.paragraph.is_escaped.Given as goal
 

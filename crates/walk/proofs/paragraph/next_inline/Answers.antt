@@ -1,5 +1,4 @@
 use mathlib.Core.Path.{refl, subst}
-use Prim.Native.Nat.{◌-◌}
 use Rattle.walk.specs.Remaining.{Attempt}
 use Rattle.walk.proofs.InlineSteps.{to-opening, onward, past-opening, none-left}
 use borrow.Author.Rules.{rules}

@@ -2,7 +2,6 @@ use Prim.Native.Nat.{◌-◌}
 use lib.ListN.{length, drop}
 use Rattle.walk.specs.Closer.{Known}
 use Rattle.walk.proofs.InlineSteps.{AtOpening}
-use borrow.Author.Rules.{rules}
 use Rattle.walk.proofs.paragraph.next_inline.Given as goal
 
 abbrev pub invariant-loop-start : goal.invariant-loop-start

@@ -1,4 +1,4 @@
-use Rattle.std.proofs.Common.{◌+◌, sym, ◌∙◌, arith}
+use Rattle.std.proofs.Common.{sym, ◌∙◌, arith}
 use Rattle.walk.proofs.InlineSteps.{untried-on, untried-here, untried-over}
 use Rattle.walk.proofs.paragraph.next_open.Goals as goal
 

@@ -1,5 +1,4 @@
 use mathlib.Core.Path.{sym, ◌∙◌}
-use Prim.Native.Nat.{◌-◌}
 use Rattle.flow.proofs.BlockSteps.{next-flags}
 use Rattle.walk.proofs.Paragraphs.{along-first, along-next, ends-before, ends-with}
 use Rattle.walk.proofs.FromLine.{farther}

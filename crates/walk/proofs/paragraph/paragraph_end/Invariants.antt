@@ -2,7 +2,6 @@ use Prim.Native.Nat.{◌+◌, ◌-◌}
 use lib.ListN.{length, drop}
 use Rattle.lexical.specs.Line.{lineLength}
 use Rattle.walk.proofs.Paragraphs.{Along}
-use borrow.Author.Rules.{rules}
 use Rattle.walk.proofs.paragraph.paragraph_end.Given as goal
 
 abbrev pub invariant-loop-stop : goal.invariant-loop-stop

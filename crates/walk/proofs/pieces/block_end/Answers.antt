@@ -1,7 +1,6 @@
 use mathlib.Core.Path.{◌≡◌}
 use mathlib.Core.Bool.{true, ◌&&◌}
 use lib.Dec.{ltb}
-use Prim.Native.Nat.{◌-◌}
 use lib.ListN.{length}
 use borrow.Author.Tests.{ltb-true}
 use Rattle.flow.proofs.BlockSteps.{next-flags}

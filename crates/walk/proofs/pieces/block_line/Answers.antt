@@ -1,7 +1,6 @@
 use mathlib.Core.Path.{refl}
 use Rattle.rules.specs.Withhold.{block}
 use Rattle.walk.proofs.Places.{leads-block}
-use borrow.Author.Rules.{rules}
 use Rattle.walk.proofs.pieces.block_line.Goals as goal
 
 pub returns : goal.returns

@@ -1,5 +1,4 @@
 use mathlib.Core.Path.{refl, ◌∙◌, subst}
-use Prim.Native.Nat.{◌-◌}
 use Rattle.walk.specs.Remaining.{TurnTo}
 use Rattle.walk.proofs.FromLine.{no-more}
 use Rattle.walk.proofs.Places.{leads-as}

@@ -2,7 +2,6 @@ use mathlib.Core.Path.{◌≡◌}
 use Prim.Native.Nat.{◌-◌}
 use lib.ListN.{length}
 use Rattle.walk.specs.Remaining.{fromLine}
-use borrow.Author.Rules.{rules}
 use Rattle.walk.proofs.pieces.line_piece.Given as goal
 
 abbrev pub invariant-loop-at : goal.invariant-loop-at

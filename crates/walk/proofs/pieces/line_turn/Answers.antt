@@ -4,7 +4,6 @@ use borrow.Author.Tests.{eqb-true, not-false}
 use Rattle.lexical.proofs.Cases.{clash}
 use Rattle.flow.specs.Answer.{blockAnswerOf}
 use Rattle.walk.proofs.BlockLines.{opens, never-refused}
-use borrow.Author.Rules.{rules}
 use Rattle.walk.proofs.pieces.line_turn.Goals as goal
 
 pub block_line-requires : goal.block_line-requires

@@ -1,7 +1,6 @@
 use mathlib.Core.Path.{sym, subst}
 use Rattle.walk.specs.Remaining.{NextInline, Goes}
 use Rattle.walk.proofs.Places.{inner-known, leads-onward, paragraph-over}
-use borrow.Author.Rules.{rules}
 use Rattle.walk.proofs.pieces.next_piece.Goals as goal
 
 pub returns-in-Piece : goal.returns-in-Piece

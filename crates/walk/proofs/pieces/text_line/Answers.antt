@@ -5,7 +5,6 @@ use Rattle.flow.proofs.BlockSteps.{next-flags}
 use Rattle.walk.specs.Remaining.{NextInline}
 use Rattle.walk.proofs.Ahead.{known-all}
 use Rattle.walk.proofs.Places.{plain-same, leads-inline, paragraph-same}
-use borrow.Author.Rules.{rules}
 use Rattle.walk.proofs.pieces.text_line.Goals as goal
 
 pub paragraph_end-end-requires-clause-same_line : goal.paragraph_end-end-requires-clause-same_line

@@ -1,4 +1,0 @@
-use Rattle.html.proofs.scan.standard_inline_scan.Goals as goal
-
-pub returns : goal.returns
-returns c = rw c.standard_rules.ensures at c.scan_by.ensures

@@ -1,4 +1,0 @@
-use Rattle.lexical.proofs.event.Point.next_byte.Goals as goal
-
-pub returns : goal.returns
-returns c = cc
