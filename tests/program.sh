@@ -130,7 +130,7 @@ for ((b = 0; b < 256; b++)); do
 done >"$folder/in"
 shows 'every byte but <'
 
-# README, What it does not know and A broken CDATA opening: what is shown of constructs that withholding takes for text.
+# README, What it does not know, A backslash before a tag and A broken CDATA opening: what is shown of constructs that withholding takes for text.
 withholds() {
     printf '%b' "$2" >"$folder/in"
     printf '%b' "$3" >"$folder/shown"
@@ -143,12 +143,15 @@ withholds 'indented code' '    <div>\n    x' '    \n    x'
 withholds 'block quote' '> <div>\n> x' '> \n> x'
 withholds 'list' '- <script>\n  x' '- \n  x'
 withholds 'list, blank lines' '- <!--\n\n  x\n\n  -->' '- <!--\n\n  x\n\n  -->'
-withholds 'backslash' '\\<b>' '\\'
 withholds 'link destination' '[a](<b>)' '[a]()'
 withholds 'autolink' '<https://example.org>' '<https://example.org>'
 withholds 'autolink of an address' '<a@b.org>' '<a@b.org>'
 withholds 'autolink that is a declaration too' 'x <!a@b.org>' 'x '
 withholds 'no second reading' '<<b>b>' '<b>'
+withholds 'a backslash' 'a \\<b>c' 'a \\<b>c'
+withholds 'two backslashes' 'a \\\\<b>c' 'a \\\\c'
+withholds 'a remark behind a backslash' 'a \\<!-- 7 -->' 'a \\<!-- 7 -->'
+withholds 'a backslash in a block' '<div>\\<b>' ''
 withholds 'a broken CDATA opening' 'door <![CDx 9 <![CDATA[old 7]]> ok' 'door <![CDx 9  ok'
 
 # A bulletin of 16,000 bytes that is one piece.
