@@ -102,12 +102,14 @@ mod rust {
         pieces
     }
 
-    // The pieces of the paragraph between the index and the end.
+    // The pieces of the paragraph between the index and the end. A `<` behind an odd run of backslashes is not tried: 02, Ask 6.
     fn inline_pieces(text: &[u8], index: usize, pieces: &mut Vec<Found>) {
         let mut index = index;
         while let Some(size) = text[index..].iter().position(|&byte| byte == b'<') {
             let start = index + size;
-            index = match inline(&text[start..], 0) {
+            let escaped = text[index..start].iter().rev().take_while(|&&byte| byte == b'\\').count() % 2 == 1;
+            let found = if escaped { None } else { inline(&text[start..], 0) };
+            index = match found {
                 Some((_, stop)) => {
                     pieces.push(Found { start, stop: start + stop, block: false });
                     start + stop
