@@ -3,7 +3,7 @@
 #
 #     compare/cmark.sh [--seed N] [--count N]
 #
-# The seed is 1 and the count of texts of each kind 400,000 where none is given, which takes some 10 seconds. It links target/staticlib/libforingamo.a, which
+# The seed is 1 and the count of texts of each kind 400,000 where none is given, which takes some 15 seconds. It links target/staticlib/libforingamo.a, which
 # scripts/archive.sh builds where it is not there or is older than its sources; a line says so. Where there is no cc, or no libcmark with its header, a line
 # says 'not compared'. The last line is 'N passed, M failed', one for each kind of comparison.
 #
