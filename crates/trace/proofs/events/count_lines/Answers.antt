@@ -19,14 +19,14 @@ pub loop-count-smaller : goal.loop-count-smaller
 loop-count-smaller c = let s = c.args.front.now in
     let i = c.loop-count.i in
     let h = met _ _ c.line_ending.ensures c.loop-count-test.true in
-    omega (arith, to-is s i _ _ c.line_from.ensures c.line_end-i.ensures, further s i h, to-within s i c.loop-count.invariant.0)
+    omega (arith, to-is _ _ _ _ c.line_from.ensures c.line_end-i.ensures, further s i h, to-within s i c.loop-count.invariant.0)
 
 pub loop-count-preserved : goal.loop-count-preserved
 loop-count-preserved c = let a = c.args in
     let s = a.front.now in
     let i = c.loop-count.i in
     let h = met _ _ c.line_ending.ensures c.loop-count-test.true in
-    let t = to-is s i _ _ c.line_from.ensures c.line_end-i.ensures in (
+    let t = to-is _ _ _ _ c.line_from.ensures c.line_end-i.ensures in (
       omega (arith, t, to-within s i c.loop-count.invariant.0),
       omega (arith, t, further s i h, c.loop-count.invariant.1, c.count_line-count.ensures, at-most-six s i a.flow),
       count-on s a.flow i _ c.loop-count.count _ _ h c.count_line-count.ensures t c.loop-count.invariant.2,
