@@ -68,11 +68,11 @@ pub(crate) fn paragraph_end(
     let mut stop = line_end(bulletin, from);
     let mut number = next_number(flags, line);
     while stop < bulletin.len() {
-        let from = next_line(bulletin, stop);
-        if ends_paragraph(rules, bulletin, flags, from, number) {
+        let next = next_line(bulletin, stop);
+        if ends_paragraph(rules, bulletin, flags, next, number) {
             return End { stop, line: number };
         }
-        stop = line_end(bulletin, from);
+        stop = line_end(bulletin, next);
         number = next_number(flags, number);
     }
     End { stop, line: number }

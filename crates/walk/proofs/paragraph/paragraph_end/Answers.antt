@@ -9,14 +9,14 @@ pub loop-stop-init : goal.loop-stop-init
 loop-stop-init c = let a = c.args in along-first a.rules a.bulletin.now a.flags.now a.index _ _ c.requires.within (c.line_end-stop.ensures ∙ c.requires.same_line)
 
 pub returns-then-ends_paragraph : goal.returns-then-ends_paragraph
-returns-then-ends_paragraph c = let a = c.args in ends-before a.rules a.bulletin.now a.flags.now a.index a.line _ _ _ (next-flags a.flags.now _ _ c.next_number-number.ensures) c.loop-stop.invariant _ c.next_line-from.ensures c.loop-stop-test.true (sym c.ends_paragraph.ensures ∙ c.if-ends_paragraph.true)
+returns-then-ends_paragraph c = let a = c.args in ends-before a.rules a.bulletin.now a.flags.now a.index a.line _ _ _ (next-flags a.flags.now _ _ c.next_number-number.ensures) c.loop-stop.invariant _ c.next_line-next.ensures c.loop-stop-test.true (sym c.ends_paragraph.ensures ∙ c.if-ends_paragraph.true)
 
 pub loop-stop-smaller : goal.loop-stop-smaller
 loop-stop-smaller c = let a = c.args in
-    let h = farther a.bulletin.now c.loop-stop.stop _ _ c.next_line-from.ensures c.line_end-stop-in-loop-stop.ensures c.loop-stop.invariant.ended c.loop-stop-test.true in search (rules, h)
+    let h = farther a.bulletin.now c.loop-stop.stop _ _ c.next_line-next.ensures c.line_end-stop-in-loop-stop.ensures c.loop-stop.invariant.ended c.loop-stop-test.true in search (rules, h)
 
 pub loop-stop-preserved : goal.loop-stop-preserved
-loop-stop-preserved c = let a = c.args in along-next a.rules a.bulletin.now a.flags.now _ _ _ _ c.loop-stop.invariant _ _ c.next_line-from.ensures c.line_end-stop-in-loop-stop.ensures c.loop-stop-test.true _ (next-flags a.flags.now _ _ c.next_number-number-in-loop-stop.ensures) (sym c.ends_paragraph.ensures ∙ c.if-ends_paragraph.false)
+loop-stop-preserved c = let a = c.args in along-next a.rules a.bulletin.now a.flags.now _ _ _ _ c.loop-stop.invariant _ _ c.next_line-next.ensures c.line_end-stop-in-loop-stop.ensures c.loop-stop-test.true _ (next-flags a.flags.now _ _ c.next_number-number-in-loop-stop.ensures) (sym c.ends_paragraph.ensures ∙ c.if-ends_paragraph.false)
 
 pub returns : goal.returns
 returns c = let a = c.args in ends-with a.rules a.bulletin.now a.flags.now a.index a.line _ _ _ (next-flags a.flags.now _ _ c.next_number-number.ensures) c.loop-stop.invariant c.loop-stop-test.false
