@@ -1,6 +1,6 @@
 // Reading a trace.
 ghost use Rattle.std.specs.Prelude.{◌≡◌};
-ghost use Rattle.rules.specs.Trace.{width, readTrace};
+ghost use Rattle.rules.specs.Trace.{wide, readTrace};
 ghost use Rattle.foringamo.specs.Result.{recordResult};
 
 use trace::reader::{Record, read_trace};
@@ -25,7 +25,7 @@ pub struct RecordResult {
 // The record of a number, counted from 0.
 #[unsafe(no_mangle)]
 pub extern "C" fn foringamo_read_trace(trace: &[u8], number: usize) -> RecordResult
-    ensures { result ≡ recordResult (readTrace width number trace.now) }
+    ensures { result ≡ recordResult (readTrace wide number trace.now) }
 {
     match read_trace(trace, number) {
         Record::Event {

@@ -33,4 +33,4 @@ run f (x ∷ xs) = pick (f x) (suc (run f xs)) 0
 
 -- 01, Where each refusal is met: the most bytes of a bulletin or a text
 unfoldable pub limit : ℕ
-limit = 16000
+limit = 1000000

@@ -60,7 +60,7 @@ pub const HTML_CDATA_SIZE: usize = 6;
 pub const TAB_SIZE: usize = 4;
 
 // The most bytes of a bulletin or a text.
-const LIMIT: usize = 16000;
+const LIMIT: usize = 1000000;
 
 // Whether the name, in lower case, is the part.
 fn same_lower(name: &[u8], part: &[u8]) -> bool

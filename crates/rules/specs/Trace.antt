@@ -12,9 +12,9 @@ use Rattle.rules.specs.Block.{indentation}
 use Rattle.rules.specs.Scan.{InlineAnswer, foundInline, noInline, refusedInline, BlockAnswer, foundBlock, noBlock, refusedBlock}
 
 -- ---- bytes
--- line, column, index and stop have two bytes each, low first
-abbrev pub width : ℕ
-width = 2
+-- line, column, index and stop have four bytes each, low first: 02, Ask 7
+abbrev pub wide : ℕ
+wide = 4
 
 -- a number in w bytes, low first
 unfoldable pub field : ℕ → ℕ → List ℕ
@@ -120,18 +120,18 @@ flowExit text start kind stop closed =
 -- a scan that finds nothing writes only its last record, with the index passed in as stop
 unfoldable pub inlineTrace : List ℕ → ℕ → InlineAnswer → List ℕ
 inlineTrace text start (foundInline stop carry) =
-    eventBytes width text (textEvents start stop (taken text start stop)) ++ lastBytes width 13 stop carry
-inlineTrace text start (noInline carry) = lastBytes width 13 start carry
+    eventBytes wide text (textEvents start stop (taken text start stop)) ++ lastBytes wide 13 stop carry
+inlineTrace text start (noInline carry) = lastBytes wide 13 start carry
 inlineTrace text start (refusedInline n carry) = []
 
 -- of a block, by its kind, its stop and whether a closer was met
 unfoldable pub flowTrace : List ℕ → ℕ → ℕ → ℕ → Bool → List ℕ
 flowTrace text start kind stop closed =
-    eventBytes width text (flowEvents start (flowExit text start kind stop closed) (taken text start stop)) ++ lastBytes width 14 stop kind
+    eventBytes wide text (flowEvents start (flowExit text start kind stop closed) (taken text start stop)) ++ lastBytes wide 14 stop kind
 
 unfoldable pub blockTrace : List ℕ → ℕ → BlockAnswer → List ℕ
 blockTrace text start (foundBlock b) = flowTrace text start b.kind b.stop b.closed
-blockTrace text start noBlock = lastBytes width 14 start 0
+blockTrace text start noBlock = lastBytes wide 14 start 0
 blockTrace text start (refusedBlock n) = []
 
 -- ---- reading

@@ -7,7 +7,7 @@ use lib.ListN.{length, length-append}
 use Rattle.rules.specs.Reading.{crate as ofCrate}
 use Rattle.rules.specs.Scan.{InlineAnswer, foundInline, noInline, refusedInline, inlineScan, Found, BlockAnswer, foundBlock, noBlock, refusedBlock, blockScan}
 use Rattle.rules.specs.Refusal.{inlineRefusal, blockRefusal, outputRefusal}
-use Rattle.rules.specs.Trace.{Event, eventBytes, lastBytes, width, inlineTrace, flowTrace, blockTrace}
+use Rattle.rules.specs.Trace.{Event, eventBytes, lastBytes, wide, inlineTrace, flowTrace, blockTrace}
 use Rattle.rules.specs.Withhold.{written}
 use Rattle.rules.specs.Output.{outputOf, Writes}
 use Rattle.rules.specs.declared.Output.{Output}
@@ -21,8 +21,8 @@ use Rattle.trace.proofs.Stores.{last-length}
 use Rattle.trace.proofs.Marks.{events-length}
 
 -- ---- lengths
-pub trace-length : (text : List ℕ) (es : List Event) (kind stop n : ℕ) → length (eventBytes width text es ++ lastBytes width kind stop n) ≡ eventLength * length es + lastLength
-trace-length text es kind stop n = omega (arith, length-append (eventBytes width text es) (lastBytes width kind stop n), events-length text es, last-length width kind stop n)
+pub trace-length : (text : List ℕ) (es : List Event) (kind stop n : ℕ) → length (eventBytes wide text es ++ lastBytes wide kind stop n) ≡ eventLength * length es + lastLength
+trace-length text es kind stop n = omega (arith, length-append (eventBytes wide text es) (lastBytes wide kind stop n), events-length text es, last-length wide kind stop n)
 
 -- ---- a trace that is written
 pub is-traced : (trace old : List ℕ) {new : List ℕ} (n : ℕ) → n ≡ length trace → n ≤ length old → Written old 0 trace new → Writes (outputRefusal 0 (length old) trace) trace old (WrittenBytes n) new
@@ -50,7 +50,7 @@ module _ (text : List ℕ) (i k : ℕ) (old : List ℕ) where
   found-by stop c e f t = answers (inline-by 0 (foundInline stop c) e f t)
 
   pub none-by : {r : Output} {new : List ℕ} (c : ℕ) → inlineScan ofCrate text i k ≡ noInline c → inlineRefusal text i k ≡ 0
-      → Writes (outputRefusal 0 (length old) (lastBytes width 13 i c)) (lastBytes width 13 i c) old r new → Is r new
+      → Writes (outputRefusal 0 (length old) (lastBytes wide 13 i c)) (lastBytes wide 13 i c) old r new → Is r new
   unfolding inlineTrace
   none-by c e f t = answers (inline-by 0 (noInline c) e f t)
 
@@ -73,7 +73,7 @@ module _ (text flags : List ℕ) (i : ℕ) (old : List ℕ) where
   block-found-by b kind k e f t = block-by 0 (foundBlock b) e f (rw k at t)
 
   pub block-none-by : {r : Output} {new : List ℕ} → blockScan ofCrate text flags i ≡ noBlock → blockRefusal text flags i ≡ 0
-      → Writes (outputRefusal 0 (length old) (lastBytes width 14 i 0)) (lastBytes width 14 i 0) old r new → IsBlock r new
+      → Writes (outputRefusal 0 (length old) (lastBytes wide 14 i 0)) (lastBytes wide 14 i 0) old r new → IsBlock r new
   unfolding blockTrace
   block-none-by e f t = block-by 0 noBlock e f t
 

@@ -7,7 +7,7 @@ use native.Mathlib.Omega.{arith}
 use lib.ListN.{length, drop, length-append}
 use Rattle.lexical.specs.Line.{lineEnding}
 use Rattle.lexical.specs.Point.{pointAt}
-use Rattle.rules.specs.Trace.{width, Event, eventBytes}
+use Rattle.rules.specs.Trace.{wide, Event, eventBytes}
 use Rattle.rules.proofs.Cut.{lineTo, to-within}
 use Rattle.lexical.specs.Buffer.{stored}
 use Rattle.trace.specs.Writing.{eventLength}
@@ -19,7 +19,7 @@ use Rattle.trace.proofs.Walks.{rest-one, rest-none}
 
 pub record Left (text front : List ℕ) (flow : Bool) (start : Pen) (old : List ℕ) (pen : Pen) (now : List ℕ) : Type 0 where
   pub bytes :
-      stored now pen.at (eventBytes width text (restEvents flow front pen.point.index)) ≡ stored old start.at (eventBytes width text (restEvents flow front start.point.index))
+      stored now pen.at (eventBytes wide text (restEvents flow front pen.point.index)) ≡ stored old start.at (eventBytes wide text (restEvents flow front start.point.index))
   pub end : pen.at + eventLength * length (restEvents flow front pen.point.index) ≡ start.at + eventLength * length (restEvents flow front start.point.index)
   pub size : length now ≡ length old
   pub stands : pen.point ≡ pointAt text pen.point.index
@@ -44,13 +44,13 @@ left-on {text} {front} {flow} {start} {pen} {next} {old} {mid} {new} l h m e =
     let a = line front flow pen in
     let b = rest front flow pen in
     let one = rest-one front pen.point.index flow h in
-    let at : next.at ≡ pen.at + length (eventBytes width text a) = m.at-is ∙ ap (λ n. pen.at + n) (sym (events-length text a)) in
+    let at : next.at ≡ pen.at + length (eventBytes wide text a) = m.at-is ∙ ap (λ n. pen.at + n) (sym (events-length text a)) in
     record {
       bytes =
-          ap (λ j. stored new next.at (eventBytes width text (restEvents flow front j))) e
-          ∙ ap (λ o. stored o next.at (eventBytes width text b)) m.bytes.is
-          ∙ stores mid pen.at next.at (eventBytes width text a) (eventBytes width text b) at
-          ∙ ap (λ o. stored mid pen.at o) (sym (events-append width text a b) ∙ ap (eventBytes width text) (sym one))
+          ap (λ j. stored new next.at (eventBytes wide text (restEvents flow front j))) e
+          ∙ ap (λ o. stored o next.at (eventBytes wide text b)) m.bytes.is
+          ∙ stores mid pen.at next.at (eventBytes wide text a) (eventBytes wide text b) at
+          ∙ ap (λ o. stored mid pen.at o) (sym (events-append wide text a b) ∙ ap (eventBytes wide text) (sym one))
           ∙ l.bytes;
       end = omega (arith, l.end, m.at-is, ap length one, length-append a b, ap (λ j. length (restEvents flow front j)) e);
       size = same m.bytes ∙ l.size;
@@ -71,7 +71,7 @@ unfolding stored eventBytes
 left-none {text} {front} {flow} {start} {pen} {old} {new} l e =
     let z = rest-none front pen.point.index flow e in
     record {
-      bytes = record { is = ap (λ es. stored new pen.at (eventBytes width text es)) (sym z) ∙ l.bytes };
+      bytes = record { is = ap (λ es. stored new pen.at (eventBytes wide text es)) (sym z) ∙ l.bytes };
       at-is = omega (arith, l.end, ap length z);
       stands = l.stands;
     }

@@ -1,10 +1,10 @@
 // Reading a trace, record by record.
 ghost use Rattle.std.specs.Prelude.{◌≡◌, ◌+◌, ◌<◌, ◌≤◌, length, drop};
-ghost use Rattle.rules.specs.Trace.{width as traceWidth, number as number_of, recordLength, recordAt, readTrace};
+ghost use Rattle.rules.specs.Trace.{wide, number as number_of, recordLength, recordAt, readTrace};
 ghost use Rattle.trace.specs.Answer.{flawOf, recordOf};
 
-// 01, Traces: line, column, index and stop have two bytes each, low first.
-pub(crate) const WIDTH: usize = 2;
+// 01, Traces: line, column, index and stop have four bytes each, low first.
+pub(crate) const WIDTH: usize = 4;
 
 // The last kind of an event, and the last kind.
 const LAST_EVENT: u8 = 12;
@@ -54,7 +54,7 @@ fn read_field(trace: &[u8], at: usize, width: usize) -> usize
 
 // The length of a record of a kind.
 fn record_length(kind: u8) -> usize
-    ensures { result ≡ recordLength traceWidth kind }
+    ensures { result ≡ recordLength wide kind }
 {
     if kind <= LAST_EVENT {
         return 2 + 3 * WIDTH;
@@ -64,7 +64,7 @@ fn record_length(kind: u8) -> usize
 
 // What is wrong with the record at an index, or 0.
 fn flaw(trace: &[u8], at: usize) -> u8
-    ensures { result ≡ flawOf traceWidth (drop at trace.now) }
+    ensures { result ≡ flawOf wide (drop at trace.now) }
 {
     if at >= trace.len() {
         return CUT_OFF;
@@ -81,7 +81,7 @@ fn flaw(trace: &[u8], at: usize) -> u8
 
 // The record at an index.
 fn record_at(trace: &[u8], at: usize) -> Record
-    ensures { recordOf result ≡ recordAt traceWidth (drop at trace.now) }
+    ensures { recordOf result ≡ recordAt wide (drop at trace.now) }
 {
     let refusal = flaw(trace, at);
     if refusal != 0 {
@@ -107,7 +107,7 @@ fn record_at(trace: &[u8], at: usize) -> Record
 
 // The record of a number, counted from 0. The first bad record on the way decides.
 pub fn read_trace(trace: &[u8], number: usize) -> Record
-    ensures { recordOf result ≡ readTrace traceWidth number trace.now }
+    ensures { recordOf result ≡ readTrace wide number trace.now }
 {
     let mut at = 0;
     let mut left = number;

@@ -12,8 +12,11 @@ use lexical::slice::from_indices;
 use output::write_output;
 use screen::withhold::{Withheld, withhold};
 
-// How many bytes a bulletin has at most.
+// How many bytes a bulletin has at most: fewer than the library takes.
 const LIMIT: usize = 16000;
+
+// 01, Where each refusal is met: the bulletin is too long.
+const TOO_LONG: u8 = 1;
 
 // A line on standard error, and nothing where that cannot be written: there is no other place to say so.
 fn say(rt: &HostRuntime, line: &str) {
@@ -48,7 +51,13 @@ fn main(rt: HostRuntime) {
     let mut text = [0u8; LIMIT + 1];
     let mut input = rt.stdin();
     match read_input(&mut input, &mut text) {
-        Input::Read { length } => answer(&rt, from_indices(&text, 0, length)),
+        Input::Read { length } => {
+            if length > LIMIT {
+                refuse(&rt, TOO_LONG);
+                return;
+            }
+            answer(&rt, from_indices(&text, 0, length));
+        }
         Input::Failed => say(&rt, "withhold: cannot read standard input\n"),
     }
 }

@@ -3,7 +3,7 @@ use mathlib.Core.Path.{sym, ◌∙◌, ap}
 use native.Mathlib.Omega.{arith}
 use mathlib.Core.List.{◌++◌}
 use lib.ListN.{length}
-use Rattle.rules.specs.Trace.{width, eventBytes, lastBytes}
+use Rattle.rules.specs.Trace.{wide, eventBytes, lastBytes}
 use Rattle.trace.specs.Walk.{flowPiece}
 use Rattle.lexical.proofs.Stores.{written-as}
 use Rattle.rules.proofs.Outputs.{not-written}
@@ -43,4 +43,4 @@ returns c = let a = c.args in
     let F = c.from_indices-front.result.now in
     let z = flow-trace-length a.text.now F a.index a.kind a.stop a.closed pre.1 pre.2 c.from_indices-front.ensures n c.flow_length-length.ensures in
     let t = flow-trace a.text.now F a.index a.kind a.stop a.closed pre.1 pre.2 c.from_indices-front.ensures in
-    is-traced _ _ n z c.if-out-length.false (written-as _ (t ∙ ap (λ e. eventBytes width a.text.now (flowPiece F a.index e) ++ lastBytes width 14 a.stop a.kind) (sym c.flow_exit-exit.ensures)) c.write_flow.ensures)
+    is-traced _ _ n z c.if-out-length.false (written-as _ (t ∙ ap (λ e. eventBytes wide a.text.now (flowPiece F a.index e) ++ lastBytes wide 14 a.stop a.kind) (sym c.flow_exit-exit.ensures)) c.write_flow.ensures)

@@ -1,17 +1,17 @@
 use mathlib.Core.Path.{sym}
 use native.Mathlib.Omega.{arith}
 use Rattle.trace.proofs.Flaws.{flaw-out, flaw-kind, flaw-cut, flaw-none}
-use Rattle.rules.specs.Trace.{width}
+use Rattle.rules.specs.Trace.{wide}
 use Rattle.trace.proofs.reader.flaw.Goals as goal
 
 pub returns-then-at-trace : goal.returns-then-at-trace
-returns-then-at-trace c = sym (flaw-out width _ _ c.if-at-trace.true)
+returns-then-at-trace c = sym (flaw-out wide _ _ c.if-at-trace.true)
 
 pub returns-then-kind : goal.returns-then-kind
-returns-then-kind c = sym (flaw-kind width _ _ c.if-at-trace.false c.if-kind.true)
+returns-then-kind c = sym (flaw-kind wide _ _ c.if-at-trace.false c.if-kind.true)
 
 pub returns-then-trace-at : goal.returns-then-trace-at
-returns-then-trace-at c = sym (flaw-cut width _ _ c.if-at-trace.false c.if-kind.false (omega (arith, c.record_length.ensures)))
+returns-then-trace-at c = sym (flaw-cut wide _ _ c.if-at-trace.false c.if-kind.false (omega (arith, c.record_length.ensures)))
 
 pub returns : goal.returns
-returns c = sym (flaw-none width _ _ c.if-at-trace.false c.if-kind.false (omega (arith, c.record_length.ensures)))
+returns c = sym (flaw-none wide _ _ c.if-at-trace.false c.if-kind.false (omega (arith, c.record_length.ensures)))

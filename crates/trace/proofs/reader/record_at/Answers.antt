@@ -3,50 +3,50 @@ use mathlib.Core.Path.{sym, ◌∙◌, ap}
 use native.Mathlib.Omega.{arith}
 use Rattle.rules.specs.Trace.{refusedRecord}
 use Rattle.trace.proofs.Flaws.{whole, record-none, event-at, last-at, event-fits, last-fits}
-use Rattle.rules.specs.Trace.{width}
+use Rattle.rules.specs.Trace.{wide}
 use Rattle.trace.proofs.reader.record_at.Goals as goal
 
 pub returns-then-refusal-ne0 : goal.returns-then-refusal-ne0
-returns-then-refusal-ne0 c = ap refusedRecord c.flaw-refusal.ensures ∙ sym (record-none width _ (λ z. c.if-refusal-ne0.true (c.flaw-refusal.ensures ∙ z)))
+returns-then-refusal-ne0 c = ap refusedRecord c.flaw-refusal.ensures ∙ sym (record-none wide _ (λ z. c.if-refusal-ne0.true (c.flaw-refusal.ensures ∙ z)))
 
 pub bounds-trace-at : goal.bounds-trace-at
-bounds-trace-at c = (whole width c.args.trace.now c.args.at (sym c.flaw-refusal.ensures ∙ c.if-refusal-ne0.false)).starts
+bounds-trace-at c = (whole wide c.args.trace.now c.args.at (sym c.flaw-refusal.ensures ∙ c.if-refusal-ne0.false)).starts
 
 pub overflow_add-from : goal.overflow_add-from
-overflow_add-from c = omega (arith, (whole width c.args.trace.now c.args.at (sym c.flaw-refusal.ensures ∙ c.if-refusal-ne0.false)).starts)
+overflow_add-from c = omega (arith, (whole wide c.args.trace.now c.args.at (sym c.flaw-refusal.ensures ∙ c.if-refusal-ne0.false)).starts)
 
 pub read_field-requires : goal.read_field-requires
-read_field-requires c = let f = event-fits width c.args.trace.now c.args.at (sym c.flaw-refusal.ensures ∙ c.if-refusal-ne0.false) c.if-kind-le-LAST_EVENT.true in record { few = omega arith; within = omega arith }
+read_field-requires c = let f = event-fits wide c.args.trace.now c.args.at (sym c.flaw-refusal.ensures ∙ c.if-refusal-ne0.false) c.if-kind-le-LAST_EVENT.true in record { few = omega arith; within = omega arith }
 
 pub overflow_add-from-then-kind-le-LAST_EVENT : goal.overflow_add-from-then-kind-le-LAST_EVENT
-overflow_add-from-then-kind-le-LAST_EVENT c = omega (arith, event-fits width c.args.trace.now c.args.at (sym c.flaw-refusal.ensures ∙ c.if-refusal-ne0.false) c.if-kind-le-LAST_EVENT.true)
+overflow_add-from-then-kind-le-LAST_EVENT c = omega (arith, event-fits wide c.args.trace.now c.args.at (sym c.flaw-refusal.ensures ∙ c.if-refusal-ne0.false) c.if-kind-le-LAST_EVENT.true)
 
 pub read_field-requires-then-kind-le-LAST_EVENT : goal.read_field-requires-then-kind-le-LAST_EVENT
-read_field-requires-then-kind-le-LAST_EVENT c = let f = event-fits width c.args.trace.now c.args.at (sym c.flaw-refusal.ensures ∙ c.if-refusal-ne0.false) c.if-kind-le-LAST_EVENT.true in record { few = omega arith; within = omega arith }
+read_field-requires-then-kind-le-LAST_EVENT c = let f = event-fits wide c.args.trace.now c.args.at (sym c.flaw-refusal.ensures ∙ c.if-refusal-ne0.false) c.if-kind-le-LAST_EVENT.true in record { few = omega arith; within = omega arith }
 
 pub overflow_add-from-then-kind-le-LAST_EVENT-2 : goal.overflow_add-from-then-kind-le-LAST_EVENT-2
-overflow_add-from-then-kind-le-LAST_EVENT-2 c = omega (arith, event-fits width c.args.trace.now c.args.at (sym c.flaw-refusal.ensures ∙ c.if-refusal-ne0.false) c.if-kind-le-LAST_EVENT.true)
+overflow_add-from-then-kind-le-LAST_EVENT-2 c = omega (arith, event-fits wide c.args.trace.now c.args.at (sym c.flaw-refusal.ensures ∙ c.if-refusal-ne0.false) c.if-kind-le-LAST_EVENT.true)
 
 pub read_field-requires-then-kind-le-LAST_EVENT-2 : goal.read_field-requires-then-kind-le-LAST_EVENT-2
-read_field-requires-then-kind-le-LAST_EVENT-2 c = let f = event-fits width c.args.trace.now c.args.at (sym c.flaw-refusal.ensures ∙ c.if-refusal-ne0.false) c.if-kind-le-LAST_EVENT.true in record { few = omega arith; within = omega arith }
+read_field-requires-then-kind-le-LAST_EVENT-2 c = let f = event-fits wide c.args.trace.now c.args.at (sym c.flaw-refusal.ensures ∙ c.if-refusal-ne0.false) c.if-kind-le-LAST_EVENT.true in record { few = omega arith; within = omega arith }
 
 pub overflow_add-result : goal.overflow_add-result
-overflow_add-result c = omega (arith, event-fits width c.args.trace.now c.args.at (sym c.flaw-refusal.ensures ∙ c.if-refusal-ne0.false) c.if-kind-le-LAST_EVENT.true)
+overflow_add-result c = omega (arith, event-fits wide c.args.trace.now c.args.at (sym c.flaw-refusal.ensures ∙ c.if-refusal-ne0.false) c.if-kind-le-LAST_EVENT.true)
 
 pub bounds-trace-from : goal.bounds-trace-from
-bounds-trace-from c = omega (arith, event-fits width c.args.trace.now c.args.at (sym c.flaw-refusal.ensures ∙ c.if-refusal-ne0.false) c.if-kind-le-LAST_EVENT.true)
+bounds-trace-from c = omega (arith, event-fits wide c.args.trace.now c.args.at (sym c.flaw-refusal.ensures ∙ c.if-refusal-ne0.false) c.if-kind-le-LAST_EVENT.true)
 
 pub returns-then-kind-le-LAST_EVENT : goal.returns-then-kind-le-LAST_EVENT
-returns-then-kind-le-LAST_EVENT c = rw (c.read_field.ensures, c.read_field-then-kind-le-LAST_EVENT.ensures, c.read_field-then-kind-le-LAST_EVENT-2.ensures) (sym (event-at width c.args.trace.now c.args.at (sym c.flaw-refusal.ensures ∙ c.if-refusal-ne0.false) c.if-kind-le-LAST_EVENT.true))
+returns-then-kind-le-LAST_EVENT c = rw (c.read_field.ensures, c.read_field-then-kind-le-LAST_EVENT.ensures, c.read_field-then-kind-le-LAST_EVENT-2.ensures) (sym (event-at wide c.args.trace.now c.args.at (sym c.flaw-refusal.ensures ∙ c.if-refusal-ne0.false) c.if-kind-le-LAST_EVENT.true))
 
 pub read_field-requires-2 : goal.read_field-requires-2
-read_field-requires-2 c = let f = last-fits width c.args.trace.now c.args.at (sym c.flaw-refusal.ensures ∙ c.if-refusal-ne0.false) c.if-kind-le-LAST_EVENT.false in record { few = omega arith; within = omega arith }
+read_field-requires-2 c = let f = last-fits wide c.args.trace.now c.args.at (sym c.flaw-refusal.ensures ∙ c.if-refusal-ne0.false) c.if-kind-le-LAST_EVENT.false in record { few = omega arith; within = omega arith }
 
 pub overflow_add-result-2 : goal.overflow_add-result-2
-overflow_add-result-2 c = omega (arith, last-fits width c.args.trace.now c.args.at (sym c.flaw-refusal.ensures ∙ c.if-refusal-ne0.false) c.if-kind-le-LAST_EVENT.false)
+overflow_add-result-2 c = omega (arith, last-fits wide c.args.trace.now c.args.at (sym c.flaw-refusal.ensures ∙ c.if-refusal-ne0.false) c.if-kind-le-LAST_EVENT.false)
 
 pub bounds-trace-from-2 : goal.bounds-trace-from-2
-bounds-trace-from-2 c = omega (arith, last-fits width c.args.trace.now c.args.at (sym c.flaw-refusal.ensures ∙ c.if-refusal-ne0.false) c.if-kind-le-LAST_EVENT.false)
+bounds-trace-from-2 c = omega (arith, last-fits wide c.args.trace.now c.args.at (sym c.flaw-refusal.ensures ∙ c.if-refusal-ne0.false) c.if-kind-le-LAST_EVENT.false)
 
 pub returns : goal.returns
-returns c = rw c.read_field-2.ensures (sym (last-at width c.args.trace.now c.args.at (sym c.flaw-refusal.ensures ∙ c.if-refusal-ne0.false) c.if-kind-le-LAST_EVENT.false))
+returns c = rw c.read_field-2.ensures (sym (last-at wide c.args.trace.now c.args.at (sym c.flaw-refusal.ensures ∙ c.if-refusal-ne0.false) c.if-kind-le-LAST_EVENT.false))

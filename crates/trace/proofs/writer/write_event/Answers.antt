@@ -2,7 +2,7 @@
 use native.Mathlib.Omega.{arith}
 use Rattle.lexical.proofs.Stores.{same-set, same}
 use Rattle.trace.proofs.Stores.{event-steps}
-use Rattle.rules.specs.Trace.{width}
+use Rattle.rules.specs.Trace.{wide}
 use Rattle.trace.proofs.writer.write_event.Goals as goal
 
 pub write_field-requires : goal.write_field-requires
@@ -22,4 +22,4 @@ bounds-out-from c = let a = c.args in
 
 pub returns : goal.returns
 returns c = let a = c.args in
-    event-steps width a.point c.write_field.ensures c.write_field-2.ensures c.write_field-3.ensures
+    event-steps wide a.point c.write_field.ensures c.write_field-2.ensures c.write_field-3.ensures

@@ -1,7 +1,7 @@
 use native.Mathlib.Omega.{arith}
 use Rattle.lexical.proofs.Stores.{same-set, same}
 use Rattle.trace.proofs.Stores.{last-steps}
-use Rattle.rules.specs.Trace.{width}
+use Rattle.rules.specs.Trace.{wide}
 use Rattle.trace.proofs.writer.write_last.Goals as goal
 
 pub write_field-requires : goal.write_field-requires
@@ -13,4 +13,4 @@ bounds-out-from c = let a = c.args in
 
 pub returns : goal.returns
 returns c = let a = c.args in
-    last-steps width a.kind a.stop a.value c.write_field.ensures
+    last-steps wide a.kind a.stop a.value c.write_field.ensures
