@@ -7,10 +7,19 @@ use crate::hex::to_hex;
 use crate::library;
 use crate::table;
 use crate::withhold::{self, Pieces};
+use reference::EVENT_LENGTH;
 use std::fmt::Debug;
 
 /// What an output buffer holds before each call.
 const OLD: u8 = 0xee;
+
+/// The most bytes that are shown of outputs that differ.
+const SHOWN: usize = 4_000;
+
+/// The most records of a trace of which each is read, and about how many are, beside
+/// the last ones, where there are more.
+const ALL_READ: usize = 64;
+const READ_OF_LONG: usize = 8;
 
 /// What differs where a record does.
 pub const RECORD: &str = "the record read";
@@ -55,11 +64,24 @@ fn same_bytes(what: &str, wanted: &[u8], given: &[u8]) -> Result<(), Difference>
     if wanted == given {
         return Ok(());
     }
+    let pairs = wanted.iter().zip(given);
+    let equal = pairs.take_while(|(one, other)| one == other).count();
     Err(Difference {
         what: what.to_string(),
-        wanted: to_hex(wanted),
-        given: to_hex(given),
+        wanted: shown(wanted, equal),
+        given: shown(given, equal),
     })
+}
+
+/// Bytes in hexadecimal; of many those about an index.
+fn shown(bytes: &[u8], index: usize) -> String {
+    if bytes.len() <= SHOWN {
+        return to_hex(bytes);
+    }
+    let from = index.saturating_sub(SHOWN / 2);
+    let to = bytes.len().min(from + SHOWN);
+    let part = to_hex(&bytes[from..to]);
+    format!("{} bytes, from {from} to {to}: {part}", bytes.len())
 }
 
 /// A part of a buffer that is to be as it was.
@@ -210,10 +232,14 @@ fn traced(
     writes(work, trace, 0, wanted, refused, call)?;
 
     work.traces += 1;
-    // Every event has eight bytes and the last record four.
-    let count = length / 8 + 1;
+    // Events, and the last record, which is shorter than one.
+    let count = length / EVENT_LENGTH + 1;
     // Reading walks from the first record: in a long trace, a few.
-    let step = if count <= 64 { 1 } else { count / 8 };
+    let step = if count <= ALL_READ {
+        1
+    } else {
+        count / READ_OF_LONG
+    };
     for number in (0..count - 1).step_by(step).chain([count - 1, count]) {
         work.records += 1;
         work.given += u64::from(read(trace, number)?);
@@ -235,15 +261,14 @@ pub fn read(trace: &[u8], number: usize) -> Outcome {
     match table::record(trace, number) {
         Err(refusal) => wanted.refusal = refusal,
         Ok(bytes) => {
-            let two = |at: usize| usize::from(bytes[at]) + 256 * usize::from(bytes[at + 1]);
             wanted.kind = bytes[0];
             wanted.last = bytes[bytes.len() - 1];
-            if bytes.len() == 8 {
-                wanted.line = two(1);
-                wanted.column = two(3);
-                wanted.index = two(5);
+            if bytes.len() == EVENT_LENGTH {
+                wanted.line = table::field(bytes, 0);
+                wanted.column = table::field(bytes, 1);
+                wanted.index = table::field(bytes, 2);
             } else {
-                wanted.index = two(1);
+                wanted.index = table::field(bytes, 0);
             }
         }
     }

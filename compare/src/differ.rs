@@ -4,14 +4,15 @@
 //!     differ [--seed N] [--count N | --long] [--threads N]
 //!
 //! Compared are the answers of both scans with kind, stop, closer and carry,
-//! all trace bytes, each record read back, withholding, the tag filter, and every
-//! refusal; the closer also with the plain rule (closer.rs). The filter is held
-//! against its plain rule (filter.rs) over the pieces of withholding, which the
-//! Rust's scans give (withhold.rs).
-//! Inputs are taken exhaustively over small alphabets (families.rs), the same
-//! in every run, and at random (fragments.rs), N texts from the seed. Where the
-//! two differ, the shortest input found is shown, and the status is 1. The last
-//! line is `N passed, M failed`, one for each kind of comparison.
+//! all trace bytes, each record read back (of a long trace a few), withholding,
+//! the tag filter, and every refusal; the closer also with the plain rule
+//! (closer.rs). The filter is held against its plain rule (filter.rs) over the
+//! pieces of withholding, which the Rust's scans give (withhold.rs).
+//! Inputs are taken exhaustively over small alphabets (families.rs) and, for
+//! single scans, up to the limit on lengths (long.rs), both the same in every
+//! run, and at random (fragments.rs), N texts from the seed. Where the two differ,
+//! the shortest input found is shown, and the status is 1. The last line is
+//! `N passed, M failed`, one for each kind of comparison.
 
 mod check;
 mod closer;
@@ -22,6 +23,7 @@ mod generator;
 #[allow(dead_code)]
 mod hex;
 mod library;
+mod long;
 mod shrink;
 mod table;
 mod withhold;
@@ -29,8 +31,9 @@ mod withhold;
 use check::{Outcome, Screen, Work};
 use families::{Family, Kind};
 use generator::Random;
+use long::Long;
 use reference::{flow_states, take_visited, text_states, Visited, CLASSES};
-use reference::{line_starts, trace_block, trace_inline};
+use reference::{line_starts, trace_block, trace_inline, EVENT_LENGTH};
 use shrink::{shrink, Ask};
 use std::ops::{Range, RangeInclusive};
 use std::process::ExitCode;
@@ -44,6 +47,12 @@ const LONG_COUNT: u64 = 10_000_000;
 /// So many random texts come with a bulletin that has the filter's names.
 const TAGGED: usize = 8;
 
+/// So many inputs that may be refused come with one about as long as is allowed.
+const AT_LIMIT: usize = 2_000;
+
+/// A text of fewer bytes is short: all is asked of it.
+const SHORT: usize = 1_000;
+
 /// How many inputs a job takes.
 const OF_FAMILY: u64 = 512;
 const AT_RANDOM: u64 = 256;
@@ -53,8 +62,10 @@ const AT_RANDOM: u64 = 256;
 enum Row {
     InlineAll,
     InlineRandom,
+    InlineLong,
     BlockAll,
     BlockRandom,
+    BlockLong,
     Records,
     WrongTraces,
     WithholdAll,
@@ -64,11 +75,13 @@ enum Row {
     Refusals,
 }
 
-const ROWS: [&str; 11] = [
+const ROWS: [&str; 13] = [
     "inline scans and traces, exhaustive",
     "inline scans and traces, random",
+    "inline scans and traces, long texts",
     "block scans and traces, exhaustive",
     "block scans and traces, random",
+    "block scans and traces, long texts",
     "records of these traces",
     "records of wrong traces, random",
     "withholding, exhaustive",
@@ -76,6 +89,16 @@ const ROWS: [&str; 11] = [
     "tag filter, exhaustive",
     "tag filter, random",
     "refusals, random",
+];
+
+/// The rows of single scans.
+const SCANS: [Row; 6] = [
+    Row::InlineAll,
+    Row::InlineRandom,
+    Row::InlineLong,
+    Row::BlockAll,
+    Row::BlockRandom,
+    Row::BlockLong,
 ];
 
 /// The rows of what is made of a bulletin's pieces: withholding and the filter.
@@ -127,11 +150,7 @@ impl Tally {
             Ok(found) => self.rows[row as usize].found += u64::from(found),
             Err(difference) => {
                 // A record read back differs in a row of its own.
-                let at_scan = matches!(
-                    row,
-                    Row::InlineAll | Row::InlineRandom | Row::BlockAll | Row::BlockRandom
-                );
-                let row = if at_scan && difference.what == check::RECORD {
+                let row = if SCANS.contains(&row) && difference.what == check::RECORD {
                     Row::Records
                 } else {
                     row
@@ -233,6 +252,8 @@ impl Tally {
 
 /// A part of the run that one thread does at once.
 enum Job {
+    /// A long text.
+    Long(Long),
     /// Texts of a family, by number.
     Family(usize, Range<u64>),
     /// So many random texts, from a seed.
@@ -240,7 +261,7 @@ enum Job {
 }
 
 fn jobs(families: &[Family], seed: u64, count: u64) -> Vec<Job> {
-    let mut jobs = vec![];
+    let mut jobs: Vec<Job> = long::all().into_iter().map(Job::Long).collect();
     for (family, numbers) in families.iter().enumerate() {
         let mut from = 0;
         while from < numbers.size() {
@@ -319,6 +340,28 @@ fn family(family: &Family, numbers: Range<u64>, tally: &mut Tally) {
     }
 }
 
+/// A long text, at its construct and at its end.
+fn one_long(long: &Long, tally: &mut Tally) {
+    let (text, index) = long.text();
+    let starts = line_starts(&text);
+    if long.kind == Kind::Inline {
+        let row = Row::InlineLong;
+        tally.input(&[row]);
+        for index in [index, text.len()] {
+            tally.inline(row, &text, index, 0);
+            tally.refused[usize::from(table::inline(&text, index, 0))] += 1;
+        }
+    } else {
+        let row = Row::BlockLong;
+        let flags = long.flags(starts.len());
+        tally.input(&[row]);
+        for index in [index, starts[starts.len() - 1]] {
+            tally.block(row, &text, &flags, index);
+            tally.refused[usize::from(table::block(&text, &flags, index))] += 1;
+        }
+    }
+}
+
 fn at_random(seed: u64, count: u64, tally: &mut Tally) {
     let random = &mut Random::new(seed);
     for _ in 0..count {
@@ -332,7 +375,7 @@ fn at_random(seed: u64, count: u64, tally: &mut Tally) {
             tally.block(Row::BlockRandom, &text, &flags, index);
         }
         // In a long text the Rust takes its time: now and then.
-        if text.len() < 1000 || random.once_in(8) {
+        if text.len() < SHORT || random.once_in(8) {
             tally.random_screen(&text, &flags);
         }
         if random.once_in(TAGGED) {
@@ -352,7 +395,7 @@ fn at_random(seed: u64, count: u64, tally: &mut Tally) {
             tally.inline(Row::InlineRandom, &inline, index, carry);
         }
 
-        if random.once_in(4) && text.len() < 1000 {
+        if random.once_in(4) && text.len() < SHORT {
             wrong_trace(random, &text, &flags, &inline, tally);
         }
         if random.once_in(4) {
@@ -384,7 +427,7 @@ fn wrong_trace(random: &mut Random, text: &[u8], flags: &[u8], inline: &[u8], ta
     } else {
         trace_block(text, flags, 0)
     };
-    let count = trace.len() / 8 + 1;
+    let count = trace.len() / EVENT_LENGTH + 1;
     for _ in 0..random.below(4) {
         if trace.is_empty() {
             break;
@@ -393,7 +436,7 @@ fn wrong_trace(random: &mut Random, text: &[u8], flags: &[u8], inline: &[u8], ta
         match random.below(5) {
             0 => trace.truncate(at),
             1 => trace[at] = random.below(256) as u8,
-            2 => trace[at / 8 * 8] = random.one(&[0, 13, 14, 15, 255]),
+            2 => trace[at / EVENT_LENGTH * EVENT_LENGTH] = random.one(&[0, 13, 14, 15, 255]),
             3 => trace.insert(at, random.below(16) as u8),
             _ => {
                 trace.remove(at);
@@ -417,7 +460,7 @@ fn wrong_trace(random: &mut Random, text: &[u8], flags: &[u8], inline: &[u8], ta
 /// An input that one or more rows of 01's table may refuse.
 fn refusal(random: &mut Random, text: &[u8], tally: &mut Tally) {
     let mut text = text.to_vec();
-    if random.once_in(100) {
+    if random.once_in(AT_LIMIT) {
         let length = table::LIMIT - 1 + random.below(4);
         let byte = random.one(b"a\n< ");
         text.resize(length, byte);
@@ -465,7 +508,7 @@ fn refused(text: &[u8], flags: &[u8], index: usize, carry: u8, tally: &mut Tally
     tally.inline(row, text, index, carry);
     tally.block(row, text, flags, index);
     // A long text is withheld and filtered above.
-    if of_bulletin != 0 || text.len() < 1000 {
+    if of_bulletin != 0 || text.len() < SHORT {
         tally.screen([row, row], text, flags);
     }
     for refusal in refusals {
@@ -532,6 +575,7 @@ fn main() -> ExitCode {
                     loop {
                         tally.job = next.fetch_add(1, Ordering::Relaxed);
                         match jobs.get(tally.job) {
+                            Some(Job::Long(one)) => one_long(one, &mut tally),
                             Some(Job::Family(one, numbers)) => {
                                 family(&families[*one], numbers.clone(), &mut tally);
                             }
@@ -573,17 +617,11 @@ fn report(tally: &Tally, options: &Options, begun: Instant) -> ExitCode {
             count.inputs, count.scans, count.found, count.differences
         );
     }
-    let of_rust: u64 = [
-        Row::InlineAll,
-        Row::InlineRandom,
-        Row::BlockAll,
-        Row::BlockRandom,
-        Row::WithholdAll,
-        Row::WithholdRandom,
-    ]
-    .iter()
-    .map(|row| tally.rows[*row as usize].scans)
-    .sum();
+    let of_rust: u64 = SCANS
+        .iter()
+        .chain(&[Row::WithholdAll, Row::WithholdRandom])
+        .map(|row| tally.rows[*row as usize].scans)
+        .sum();
     let numbers: Vec<String> = (1..10)
         .map(|number| format!("{number}: {}", tally.refused[number]))
         .collect();

@@ -2,6 +2,7 @@
 //! strings at each of a few places.
 
 use crate::filter;
+use crate::fragments;
 use crate::table;
 use reference::{HTML_BLOCK_NAMES, HTML_RAW_NAMES};
 
@@ -347,7 +348,8 @@ impl List {
     }
 
     /// Backslashes before openings of blocks and of inline pieces, in and behind
-    /// pieces, and in runs up to the longest that the limit on bulletins allows.
+    /// pieces, in short runs and in runs about as long as the longest random text, and
+    /// with few flags in the longest that the limit on bulletins allows.
     fn backslashes(&mut self) {
         let kind = Kind::Withhold;
         self.runs(
@@ -365,17 +367,19 @@ impl List {
             4,
         );
         self.runs(kind, false, b"", &letters(b"\\<a>\n"), 6);
+        let long = fragments::LONGEST - 9..=fragments::LONGEST + 1;
+        self.backslash_runs(true, (0..=9).chain(long));
+        self.backslash_runs(false, table::LIMIT - 9..=table::LIMIT + 1);
+    }
 
-        let lengths = (0..=9).chain(table::LIMIT - 9..=table::LIMIT + 1);
-        self.add(
-            kind,
-            true,
-            vec![
-                strings(&[b"", b"x", b"x\n", b"<p>\n\n"]),
-                lengths.map(|length| vec![b'\\'; length]).collect(),
-                strings(&[b"<b>", b"<xmp>"]),
-            ],
-        );
+    /// Runs of so many backslashes before a tag.
+    fn backslash_runs(&mut self, everywhere: bool, lengths: impl Iterator<Item = usize>) {
+        let parts = vec![
+            strings(&[b"", b"x", b"x\n", b"<p>\n\n"]),
+            lengths.map(|length| vec![b'\\'; length]).collect(),
+            strings(&[b"<b>", b"<xmp>"]),
+        ];
+        self.add(Kind::Withhold, everywhere, parts);
     }
 
     /// Tags with the filter's names, of which not all count: in blocks and

@@ -50,10 +50,13 @@ const BEHIND: [&[u8]; 19] = [
     b"", b"/", b"/ >", b"x>", b"-a>", b"<", b"\x0c>",
 ];
 
-/// The length of the shortest text that is about as long as is allowed.
-const LONG: usize = 15_900;
+/// The most bytes of a random text, and of the shortest that is long: far below
+/// what is allowed, since the Rust takes quadratic time to withhold. The texts of
+/// long.rs, for single scans, go up to the limit.
+pub const LONGEST: usize = 16_000;
+const LONG: usize = LONGEST - 100;
 
-/// A text; now and then one that is about as long as is allowed.
+/// A text; now and then a long one.
 pub fn text(random: &mut Random) -> Vec<u8> {
     if random.once_in(4000) {
         return long(random);
@@ -161,7 +164,7 @@ fn tag(random: &mut Random) -> Vec<u8> {
 }
 
 /// Tags with the filter's names, among openings and other pieces; now and then
-/// again and again, up to the length that is allowed.
+/// again and again, in a long text.
 pub fn tagged(random: &mut Random) -> Vec<u8> {
     let mut text = vec![];
     if random.once_in(2) {
@@ -178,7 +181,7 @@ pub fn tagged(random: &mut Random) -> Vec<u8> {
         mutate(random, &mut text);
     }
     if random.once_in(50_000) {
-        let length = LONG + random.below(101);
+        let length = long_length(random);
         return text.into_iter().cycle().take(length).collect();
     }
     text
@@ -200,9 +203,9 @@ fn filtered_tag(random: &mut Random, text: &mut Vec<u8>) {
     text.extend_from_slice(random.one(&BEHIND));
 }
 
-/// One text in three with runs of backslashes put in, most before a `<`. One that
-/// is about as long as is allowed stays as long. What is recorded (record.rs) does
-/// without: to the scans a backslash is a byte as any other.
+/// One text in three with runs of backslashes put in, most before a `<`. A long one
+/// stays as long. What is recorded (record.rs) does without: to the scans a
+/// backslash is a byte as any other.
 pub fn with_backslashes(random: &mut Random, text: Vec<u8>) -> Vec<u8> {
     if !random.once_in(3) {
         return text;
@@ -241,9 +244,14 @@ fn mutate(random: &mut Random, text: &mut Vec<u8>) {
     }
 }
 
-/// From 15,900 to 16,003 bytes: a fragment again and again, with others between.
+/// From 15,900 to 16,000.
+fn long_length(random: &mut Random) -> usize {
+    LONG + random.below(LONGEST - LONG + 1)
+}
+
+/// A fragment again and again, with others between.
 fn long(random: &mut Random) -> Vec<u8> {
-    let length = LONG + random.below(104);
+    let length = long_length(random);
     let mut text = vec![];
     if random.once_in(2) {
         text.extend_from_slice(random.one(&OPENINGS));

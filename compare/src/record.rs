@@ -7,8 +7,9 @@
 //! state of the Rust and a class of byte that no kept scan with the same outcome
 //! has reached, or has an answer of a new shape; in the end those that the others
 //! make needless are dropped. Refusals are kept where a new set of 01's
-//! conditions applies. What is covered is told. The form of a case and of an
-//! answer stands in crates/cases/src/run.rt.
+//! conditions applies, and a few scans have stops that two bytes do not hold. What
+//! is covered is told. The form of a case and of an answer stands in
+//! crates/cases/src/run.rt.
 
 #[allow(dead_code)]
 mod families;
@@ -25,7 +26,7 @@ use families::Kind;
 use generator::Random;
 use hex::to_hex;
 use reference::{block, flow_states, holds_blank_line, inline, line_starts, take_visited};
-use reference::{text_states, Ev, Visited, CLASSES};
+use reference::{text_states, Ev, Visited, CLASSES, EVENT_LENGTH, LAST_LENGTH};
 use std::collections::{HashMap, HashSet};
 use std::fs;
 use std::hash::{DefaultHasher, Hash, Hasher};
@@ -34,9 +35,9 @@ use std::process::ExitCode;
 /// Random texts tried for each bound on their length.
 const TRIES: usize = 400_000;
 
-/// The longest text, and the longest trace, of a case.
+/// The longest text of a case, and the most events.
 const LENGTHS: [usize; 7] = [4, 6, 9, 12, 18, 26, 40];
-const TRACE: usize = 500;
+const EVENTS: usize = 62;
 
 /// The letters of a scan with its trace, of one over a long text, and of a
 /// record: those of crates/cases/src/run.rt. A long one is the capital.
@@ -46,8 +47,10 @@ const BLOCK: char = 'l';
 const LONG_BLOCK: char = 'L';
 const RECORD: char = 'e';
 
-/// What a buffer holds before.
+/// What a buffer holds before, and the room of one for a trace that is refused: so
+/// much as the shortest trace takes.
 const OLD: &str = "ee";
+const REFUSED_ROOM: usize = LAST_LENGTH;
 
 /// A case with its answer and what it covers.
 struct Case {
@@ -98,6 +101,18 @@ fn traced(trace: &[u8], number: usize) -> (usize, String) {
     }
 }
 
+/// What the program says of a record.
+fn said_of(record: &[u8]) -> String {
+    let kind = record[0];
+    let last = record[record.len() - 1];
+    let first = table::field(record, 0);
+    if record.len() == LAST_LENGTH {
+        return format!("last {kind} {first} {last}");
+    }
+    let [column, index] = [1, 2].map(|place| table::field(record, place));
+    format!("event {kind} {first} {column} {index} {last}")
+}
+
 /// The scans that are tried, the visited states, and the kept cases.
 struct Recorder {
     random: Random,
@@ -136,10 +151,10 @@ impl Recorder {
         take_visited();
         let answer = inline(text, index, usize::from(carry));
         let visited = take_visited();
-        let trace = answer.trace();
-        if trace.len() > TRACE {
+        if answer.events.len() > EVENTS {
             return;
         }
+        let trace = answer.trace();
         self.saw(&visited);
         let mut features = vec![];
         pairs(&visited, u8::from(answer.found), &mut features);
@@ -161,7 +176,7 @@ impl Recorder {
                 format!("none {}", answer.carry)
             };
             (
-                format!("{INLINE}{index:04x}01{room:04x}{carry:02x}{}", to_hex(text)),
+                format!("{INLINE}{index:06x}01{room:06x}{carry:02x}{}", to_hex(text)),
                 format!("{said} {traced}"),
             )
         });
@@ -171,10 +186,10 @@ impl Recorder {
         take_visited();
         let answer = block(text, flags, index);
         let visited = take_visited();
-        let trace = answer.trace();
-        if trace.len() > TRACE {
+        if answer.events.len() > EVENTS {
             return;
         }
+        let trace = answer.trace();
         self.saw(&visited);
         let mut features = vec![];
         let outcome = 2 * answer.kind + u8::from(answer.closed);
@@ -207,7 +222,7 @@ impl Recorder {
             let count = flags.len();
             (
                 format!(
-                    "{BLOCK}{index:04x}{count:02x}{room:04x}{}{}",
+                    "{BLOCK}{index:06x}{count:02x}{room:06x}{}{}",
                     to_hex(flags),
                     to_hex(text)
                 ),
@@ -274,19 +289,19 @@ impl Recorder {
             self.refused_block(text, &flags, index);
         }
         for (byte, length) in [
-            (b'a', 16_000),
-            (b'a', 16_001),
-            (b'<', 16_002),
-            (b'\n', 16_001),
+            (b'a', table::LIMIT),
+            (b'a', table::LIMIT + 1),
+            (b'<', table::LIMIT + 2),
+            (b'\n', table::LIMIT + 1),
         ] {
             let bytes = vec![byte; length];
             for index in [0, 1, length, length + 1] {
                 for carry in [0, 5, 6] {
-                    let text = (bytes.as_slice(), format!("{length:04x}{byte:02x}"), true);
+                    let text = (bytes.as_slice(), format!("{length:06x}{byte:02x}"), true);
                     self.refused_inline(text, index, carry);
                 }
                 for flags in [&[] as &[u8], &[0], &[4], &[0, 0]] {
-                    let text = (bytes.as_slice(), format!("{length:04x}{byte:02x}"), true);
+                    let text = (bytes.as_slice(), format!("{length:06x}{byte:02x}"), true);
                     self.refused_block(text, flags, index);
                 }
             }
@@ -311,10 +326,10 @@ impl Recorder {
         self.keep(features, |_| {
             let letter = if long { LONG_INLINE } else { INLINE };
             (
-                format!("{letter}{index:04x}010004{carry:02x}{form}"),
+                format!("{letter}{index:06x}01{REFUSED_ROOM:06x}{carry:02x}{form}"),
                 format!(
                     "refused {refusal} {carry} refused {refusal} {}",
-                    OLD.repeat(4)
+                    OLD.repeat(REFUSED_ROOM)
                 ),
             )
         });
@@ -340,10 +355,35 @@ impl Recorder {
             let letter = if long { LONG_BLOCK } else { BLOCK };
             let count = flags.len();
             (
-                format!("{letter}{index:04x}{count:02x}0004{}{form}", to_hex(flags)),
-                format!("refused {refusal} refused {refusal} {}", OLD.repeat(4)),
+                format!(
+                    "{letter}{index:06x}{count:02x}{REFUSED_ROOM:06x}{}{form}",
+                    to_hex(flags)
+                ),
+                format!(
+                    "refused {refusal} refused {refusal} {}",
+                    OLD.repeat(REFUSED_ROOM)
+                ),
             )
         });
+    }
+
+    /// Inline scans at the end of a long text: stops about the highest of two bytes,
+    /// and the highest of all.
+    fn far(&mut self) {
+        let two_bytes = usize::from(u16::MAX);
+        for length in [two_bytes, two_bytes + 1, table::LIMIT - 1, table::LIMIT] {
+            let byte = b'<';
+            let answer = inline(&vec![byte; length], length, 0);
+            assert!(!answer.found, "there is nothing at the end");
+            let trace = answer.trace();
+            let room = trace.len();
+            self.keep(vec![feature(("far", length))], |_| {
+                (
+                    format!("{LONG_INLINE}{length:06x}01{room:06x}00{length:06x}{byte:02x}"),
+                    format!("none {} traced {room} {}", answer.carry, to_hex(&trace)),
+                )
+            });
+        }
     }
 
     /// Records of traces, of which some are cut off or have a wrong kind.
@@ -363,29 +403,23 @@ impl Recorder {
                 trace.truncate(at);
             }
             if self.random.once_in(2) && !trace.is_empty() {
-                let at = self.random.below(trace.len()) / 4 * 4;
+                // The kind of a record, or a byte in the middle of one.
+                let half = EVENT_LENGTH / 2;
+                let at = self.random.below(trace.len()) / half * half;
                 trace[at] = self.random.below(18) as u8;
             }
-            let number = self.random.below(trace.len() / 8 + 2);
+            let number = self.random.below(trace.len() / EVENT_LENGTH + 2);
             let read = table::record(&trace, number);
             let kind = read.map(|bytes| bytes[0]);
-            let left = trace.len() % 8;
+            let left = trace.len() % EVENT_LENGTH;
             let features = vec![feature(("record", kind, number.min(3), left))];
             self.keep(features, |_| {
                 let said = match read {
                     Err(refusal) => format!("refused {refusal}"),
-                    Ok(bytes) => {
-                        let two = |at: usize| u16::from_le_bytes([bytes[at], bytes[at + 1]]);
-                        let kind = bytes[0];
-                        if kind > 12 {
-                            format!("last {kind} {} {}", two(1), bytes[3])
-                        } else {
-                            let [line, column, index] = [two(1), two(3), two(5)];
-                            format!("event {kind} {line} {column} {index} {}", bytes[7])
-                        }
-                    }
+                    Ok(bytes) => said_of(bytes),
                 };
-                (format!("{RECORD}{number:04x}000000{}", to_hex(&trace)), said)
+                let trace = to_hex(&trace);
+                (format!("{RECORD}{number:06x}00000000{trace}"), said)
             });
         }
     }
@@ -437,6 +471,7 @@ fn main() -> ExitCode {
     recorder.families();
     let scans = recorder.tried;
     recorder.refusals();
+    recorder.far();
     recorder.records();
     let found = recorder.kept.len();
     recorder.thin();

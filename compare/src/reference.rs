@@ -42,4 +42,5 @@ pub use scan::{blank, block, holds_blank_line, inline, line_end, line_starts};
 pub use scan::{block_answer, inline_answer};
 pub use scan::{Block, Ev, Inline};
 pub use trace::{trace_block, trace_inline};
+pub use trace::{EVENT_LENGTH, FIELD_LENGTH, LAST_LENGTH};
 pub use util::constant::{HTML_BLOCK_NAMES, HTML_RAW_NAMES};

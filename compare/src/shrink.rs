@@ -2,12 +2,26 @@
 
 use crate::check::{self, Difference, Outcome, Screen, Work};
 use crate::families::Kind;
+use crate::fragments::LONGEST;
 use crate::hex::to_hex;
 use reference::line_starts;
 use std::time::{Duration, Instant};
 
 /// How long an input is made smaller.
 const PATIENCE: Duration = Duration::from_secs(20);
+
+/// So many bytes are shown of each end of an input that is longer than a random
+/// text.
+const END: usize = LONGEST / 2;
+
+/// Bytes in some form; of many, both ends.
+fn shown(bytes: &[u8], form: impl Fn(&[u8]) -> String) -> String {
+    if bytes.len() <= 2 * END {
+        return form(bytes);
+    }
+    let (front, back) = (&bytes[..END], &bytes[bytes.len() - END..]);
+    format!("{} .. {}", form(front), form(back))
+}
 
 /// What is asked of both. `bytes` is the text, the bulletin or the trace.
 #[derive(Clone)]
@@ -54,18 +68,17 @@ impl Ask {
             Kind::Filter => "tag filter",
             Kind::Read => "trace reading",
         };
-        let mut text = format!(
-            "{name}, {} bytes: {}",
-            self.bytes.len(),
-            to_hex(&self.bytes)
-        );
+        let hexadecimal = shown(&self.bytes, to_hex);
+        let mut text = format!("{name}, {} bytes: {hexadecimal}", self.bytes.len());
         if self.kind != Kind::Read {
-            text += &format!("\n  as text \"{}\"", self.bytes.escape_ascii());
+            let escaped = shown(&self.bytes, |part| part.escape_ascii().to_string());
+            text += &format!("\n  as text \"{escaped}\"");
         }
+        let flags = shown(&self.flags, |part| format!("{part:?}"));
         text += &match self.kind {
             Kind::Inline => format!("\n  index {}, carry {}", self.index, self.carry),
-            Kind::Block => format!("\n  flags {:?}, index {}", self.flags, self.index),
-            Kind::Withhold | Kind::Filter => format!("\n  flags {:?}", self.flags),
+            Kind::Block => format!("\n  flags {flags}, index {}", self.index),
+            Kind::Withhold | Kind::Filter => format!("\n  flags {flags}"),
             Kind::Read => format!("\n  record {}", self.index),
         };
         text
@@ -151,7 +164,7 @@ pub fn shrink(ask: &Ask) -> (Ask, Difference) {
         if let Some(small) = best
             .simpler()
             .into_iter()
-            .find(|small| small.differs_in(&what))
+            .find(|small| begun.elapsed() < PATIENCE && small.differs_in(&what))
         {
             best = small;
         }

@@ -1,10 +1,10 @@
 //! 01's table of refusals, and trace reading, written down plainly. A refusal
 //! of 0 is none.
 
-use reference::{holds_blank_line, line_starts};
+use reference::{holds_blank_line, line_starts, EVENT_LENGTH, FIELD_LENGTH, LAST_LENGTH};
 
-/// 01, What is read and given: at most 16,000 bytes.
-pub const LIMIT: usize = 16_000;
+/// 01, What is read and given, with 02, Ask 7: at most 1,000,000 bytes.
+pub const LIMIT: usize = 1_000_000;
 
 /// The refusal of an output buffer.
 pub const NO_ROOM: u8 = 7;
@@ -53,8 +53,8 @@ pub fn record(trace: &[u8], number: usize) -> Result<&[u8], u8> {
     loop {
         let length = match rest.first() {
             None => return Err(9),
-            Some(1..=12) => 8,
-            Some(13 | 14) => 4,
+            Some(1..=12) => EVENT_LENGTH,
+            Some(13 | 14) => LAST_LENGTH,
             Some(_) => return Err(8),
         };
         if rest.len() < length {
@@ -66,4 +66,15 @@ pub fn record(trace: &[u8], number: usize) -> Result<&[u8], u8> {
         rest = &rest[length..];
         passed += 1;
     }
+}
+
+/// The number in a field of a record, by its place behind the kind: 0, 1 and 2 are
+/// the line, column and index of an event, 0 is the stop of the last record.
+pub fn field(record: &[u8], place: usize) -> usize {
+    let from = 1 + place * FIELD_LENGTH;
+    let bytes = &record[from..from + FIELD_LENGTH];
+    bytes
+        .iter()
+        .rev()
+        .fold(0, |number, byte| 256 * number + usize::from(*byte))
 }

@@ -2,19 +2,19 @@
 ghost use Rattle.std.specs.Prelude.{◌≡◌, IfOk, replicate};
 
 use crate::escape::{cut, decimal, flags, unescape};
-use crate::hex::{byte_at, decode, two_bytes};
+use crate::hex::{byte_at, decode, three_bytes};
 use lexical::slice::from_indices;
 use std::alloc::{AllocError, Global};
 
 // In hexadecimal, where the count of flags stands and the room, and where the flags begin.
-const COUNT_AT: usize = 2;
+const COUNT_AT: usize = 3;
 
-const ROOM_AT: usize = 3;
+const ROOM_AT: usize = 4;
 
-const FLAGS_AT: usize = 5;
+const FLAGS_AT: usize = 7;
 
 // In a text of one byte again and again, where the byte stands, behind the length.
-const BYTE_AT: usize = 2;
+const BYTE_AT: usize = 3;
 
 // What an output buffer holds before.
 pub const FILL: u8 = 0xee;
@@ -87,8 +87,8 @@ impl Case {
         Ok(Case {
             text: Vec::from_slice(alloc, from_indices(&bytes, text_at, bytes.len()))?,
             flags: Vec::from_slice(alloc, from_indices(&bytes, FLAGS_AT, text_at))?,
-            index: two_bytes(&bytes),
-            room: two_bytes(from_indices(&bytes, ROOM_AT, FLAGS_AT)),
+            index: three_bytes(&bytes),
+            room: three_bytes(from_indices(&bytes, ROOM_AT, FLAGS_AT)),
         })
     }
 
@@ -96,7 +96,7 @@ impl Case {
     fn of_one_byte(alloc: Global, digits: &[u8]) -> Result<Case, AllocError> {
         let mut case = Case::in_hexadecimal(alloc, digits)?;
         let byte = byte_at(&case.text, BYTE_AT);
-        case.text = vec![in alloc; byte; two_bytes(&case.text)]?;
+        case.text = vec![in alloc; byte; three_bytes(&case.text)]?;
         Ok(case)
     }
 

@@ -1,4 +1,4 @@
-// Cases in hexadecimal: two digits for each byte, and numbers of two bytes, high byte first.
+// Cases in hexadecimal: two digits for each byte, and numbers of three bytes, high byte first.
 ghost use Rattle.std.specs.Prelude.{◌≡◌, ◌+◌, ◌*◌, ◌/◌, ◌^◌, ◌<◌, length, slice_index, IfOk};
 
 use std::alloc::{AllocError, Global};
@@ -15,11 +15,11 @@ pub fn byte_at(bytes: &[u8], index: usize) -> u8
     bytes.get(index).copied().unwrap_or(0)
 }
 
-// The number in the two bytes at the front.
-pub fn two_bytes(bytes: &[u8]) -> usize
-    ensures { result ≡ slice_index bytes.now 0 * 2 ^ 8 + slice_index bytes.now 1 }
+// The number in the three bytes at the front.
+pub fn three_bytes(bytes: &[u8]) -> usize
+    ensures { result ≡ slice_index bytes.now 0 * 2 ^ 16 + slice_index bytes.now 1 * 2 ^ 8 + slice_index bytes.now 2 }
 {
-    u16::from_be_bytes([byte_at(bytes, 0), byte_at(bytes, 1)]) as usize
+    u32::from_be_bytes([0, byte_at(bytes, 0), byte_at(bytes, 1), byte_at(bytes, 2)]) as usize
 }
 
 // The value of a digit, or 0.

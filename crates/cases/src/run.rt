@@ -4,8 +4,8 @@
 //
 //     n    a line: its list of names and its place there, the column at its end, whether it is blank (lines.rt)
 //
-// `INDEX FLAGS TEXT`, a space before each: three digits, one digit for each flag, and a text in which `\n`, `\r`, `\t` and `\\` are LF, CR, tab and backslash. What
-// takes no flags has one digit in their place.
+// `INDEX FLAGS TEXT`, a space before each: a number in decimal digits, one digit for each flag, and a text in which `\n`, `\r`, `\t` and `\\` are LF, CR, tab and
+// backslash. What takes no flags has one digit in their place.
 //
 //     i    the inline scan; the digit is the carry (scans.rt)
 //     b    the block scan (scans.rt)
@@ -21,21 +21,21 @@
 //     f    whether a line of a block of the digit's kind has its closer, by the lent step with all eight changes (readers.rt)
 //     F    the same with none of the changes (readers.rt)
 //
-// `ROOM LENGTH FLAGS TEXT`, the same with two numbers of five digits:
+// `ROOM LENGTH FLAGS TEXT`, the same with two numbers; the text comes again and again up to the length:
 //
 //     w    withholding (screens.rt)
 //     W    withholding by the standard (screens.rt)
 //     g    GitHub's tag filter (screens.rt)
 //
-// Hexadecimal: INDEX of two bytes, COUNT of one, ROOM of two, high byte first, as many flags as COUNT says, and the text. The carry of an inline scan is its one
-// flag.
+// Hexadecimal: INDEX of three bytes, COUNT of one, ROOM of three, high byte first, as many flags as COUNT says, and the text. The carry of an inline scan is its
+// one flag.
 //
 //     I    the inline trace into a buffer of that room (traces.rt)
 //     B    the block trace likewise (traces.rt)
 //     e    the record of a trace whose number is the index (traces.rt)
 //     s    the inline scan, and its trace (recorded.rt)
 //     l    the block scan, and its trace (recorded.rt)
-//     S, L the same; the text is a length of two bytes and a byte, which comes again and again (recorded.rt)
+//     S, L the same; the text is a length of three bytes and a byte, which comes again and again (recorded.rt)
 //
 // What is missing in a line is empty or 0. A new kind takes a letter, an arm of `answer` (and in another form than `INDEX FLAGS TEXT` its letter in `Case::new`), and
 // a function in the file of its topic.

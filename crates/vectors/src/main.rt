@@ -17,23 +17,25 @@
 // line, behind CR LF and CR, on a lazy line, behind a paragraph, and without its last byte; kinds 6 and 7, none, and the refusals 2, 3 and 4. Kind, stop and closer
 // are those of the Rust crate markdown 1.0.0, from compare. 84 by the standard (`c`): the first place in the lines that 4.6 of CommonMark 0.31.2 says.
 //
-// 79 of traces: the bytes of written traces (`I`, `B`) are those of the Rust crate markdown 1.0.0, from compare; records read (`e`) and refusals are worked out by hand.
+// 91 of traces: the bytes of written traces (`I`, `B`) are those of the Rust crate markdown 1.0.0, from compare; records read (`e`) and refusals are worked out by hand.
+// Of the records 8 have fields above 65,535, and 5 are cut off in the fourth byte of a field.
 //
 // 263 of both forms in crates/reader: the texts of `r` and `t` and their answers are those of the inline scan above, but that the run does not make 01's refusals; the
 // index and byte behind them are counted from the text. The texts of `p` are paragraphs of CommonMark 0.31.2 (CC BY-SA 4.0), 6.6, and the answers of `T` and `F` are
 // what its 6.6 and 4.6 say of the text; those of `f` for CDATA are 01's F1.
 //
-// 294 of withholding (`w`): 01's row of the added screen; the refusals 1, 2, 3 and 7, and room that just suffices; blocks of each kind, with and without their closers,
-// lazy and interrupting lines, the three line endings, tabs, blank lines and the empty last line; paragraphs next to blocks; inline pieces over several lines; openings
-// that no closer follows, and closed ones behind them and in the next paragraph; and bulletins that differ in a private piece. The pieces are those that the Rust crate
-// markdown 1.0.0 finds, from compare, where 01's Withhold paragraph has it scan; the refusals are 01's table.
+// 296 of withholding (`w`): 01's row of the added screen; the refusals 1, 2, 3 and 7, and room that just suffices; bulletins of 1,000,000 bytes; blocks of each kind,
+// with and without their closers, lazy and interrupting lines, the three line endings, tabs, blank lines and the empty last line; paragraphs next to blocks; inline
+// pieces over several lines; openings that no closer follows, and closed ones behind them and in the next paragraph; and bulletins that differ in a private piece. The
+// pieces are those that the Rust crate markdown 1.0.0 finds, from compare, where 01's Withhold paragraph has it scan, but in the two of 1,000,000 bytes, where they are
+// counted; the refusals are 01's table.
 //
-// 250 of the tag filter (`g`), for 02, Ask 4: the pieces are those of the Rust crate markdown 1.0.0, and the tags in them were found by a regular expression.
+// 252 of the tag filter (`g`), for 02, Ask 4: the pieces are those of the Rust crate markdown 1.0.0, and the tags in them were found by a regular expression.
 //
-// 872 by the standard, for 02, Ask 5: every text of `i`, `b` and `w` above, CommonMark's examples among them, through the inline scan (`j`), the block scan (`d`) and
+// 874 by the standard, for 02, Ask 5: every text of `i`, `b` and `w` above, CommonMark's examples among them, through the inline scan (`j`), the block scan (`d`) and
 // withholding (`W`); then each of the eight places where the readings part (also by `c`), `<a>` with flags 0 to 3, `<![` and what begins so with carries 0 to 6, and
 // the refusals. The answers are those of a model of 4.6 and 6.6 of CommonMark 0.31.2 that was made for them, of regular expressions and 01's flags and stops; of
-// the first 726 they are the answers above but in 36, where one of the eight applies.
+// the first 728 they are the answers above but in 36, where one of the eight applies.
 //
 // 416 of backslashes, for 02, Ask 6: 180 of withholding in either reading (`w`, `W`), runs of 0 to 5 before a tag, a comment and `<![CDATA[`, at the start of a
 // bulletin, behind a blank line, CR, CR LF, LF, a word and a piece; before the other forms; what breaks a run; backslashes inside of pieces, and pieces inside of a
