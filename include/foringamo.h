@@ -10,7 +10,7 @@
  * or found 0, which without a refusal means that nothing was found.
  *
  *     0  not refused
- *     1  the bulletin or text has over 16,000 bytes
+ *     1  the bulletin or text has over 1,000,000 bytes
  *     2  the count of flags is not the number of lines
  *     3  a flag is above 3
  *     4  the index: in a bulletin not a line's first byte, in an inline text above its length
@@ -33,9 +33,12 @@
  * An index and a stop count bytes from 0, in the slice passed in; a stop is behind the last byte taken. A block's stop is before the line ending behind it, and
  * the next line begins behind that; for the empty last line the index is the length.
  *
- * Each call looks through its whole input for refusals, and reading a trace walks from its first record: to scan at every line, or to read every record, costs
- * the square of the length. foringamo_withhold, foringamo_standard_withhold and foringamo_filter go through a bulletin once where there is the room that always
- * suffices, else twice: first to count what they would write.
+ * Each call looks through its whole input for refusals, and foringamo_read_trace walks from the first record. To scan at every line of a long bulletin, or to read
+ * every record of a long trace by its number, therefore takes the square of its length in time. Instead, hand an inline scan the paragraph's text only, scan for
+ * blocks only at lines that begin with `<` behind at most three spaces, as no other opens one, and walk the trace's bytes: a record's kind tells its length.
+ *
+ * foringamo_withhold, foringamo_standard_withhold and foringamo_filter go through a bulletin once where there is the room that always suffices, else twice: first to
+ * count what they would write.
  *
  * There are two readings. Functions with `standard` in their names read to the letter of CommonMark 0.31.2 (HTML blocks, Raw HTML). The others read as the Rust crate
  * markdown 1.0.0 does, which departs from it in eight places: where a block of kind 5 closes, in five places what opens kind 7, in one what an inline open tag is,
@@ -47,7 +50,7 @@
 #include <stddef.h>
 #include <stdint.h>
 
-#define FORINGAMO_VERSION "0.3.4"
+#define FORINGAMO_VERSION "0.4.0"
 
 #ifdef __cplusplus
 extern "C" {
@@ -97,7 +100,8 @@ typedef foringamo_written foringamo_trace;
 
 /*
  * A record of a trace. Kinds 1 to 12 are events, enter (odd) and exit (even) of HtmlFlow, HtmlFlowData, LineEnding, HtmlText, HtmlTextData and SpaceOrTab;
- * 13 is the last record of an inline trace, 14 that of a block trace.
+ * 13 is the last record of an inline trace, 14 that of a block trace. In the trace an event has 14 bytes: the kind, line, column and index in four bytes each, low
+ * byte first, and vs. A last record has 6: the kind, the stop in four bytes, low byte first, and the carry or block kind.
  */
 typedef struct {
     uint8_t refusal;
@@ -133,10 +137,13 @@ foringamo_inline foringamo_inline_scan(const uint8_t *text, size_t text_len, siz
 /* The same by the standard. The carry has no effect and comes back as it was passed; above 5 it is refused all the same. Refusals 1, 4, 5, 6. */
 foringamo_inline foringamo_standard_inline_scan(const uint8_t *text, size_t text_len, size_t index, uint8_t carry);
 
-/* Writes the trace of foringamo_block_scan: its events and its answer, as records. Where nothing is found the last record's stop is the index. Refusals 1, 2, 3, 4, 7. */
+/*
+ * Writes the trace of foringamo_block_scan: its events and its answer, as records. Where nothing is found the last record's stop is the index. Room for
+ * bulletin_len * 28 + 6 bytes always suffices; `<?` and line endings need all of it, 28,000,006 bytes at the limit. Refusals 1, 2, 3, 4, 7.
+ */
 foringamo_trace foringamo_block_trace(const uint8_t *bulletin, size_t bulletin_len, const uint8_t *flags, size_t flags_len, size_t index, uint8_t *out, size_t out_len);
 
-/* Writes the trace of foringamo_inline_scan. Refusals 1, 4, 5, 6, 7. */
+/* Writes the trace of foringamo_inline_scan. Room for text_len * 28 + 6 bytes always suffices. Refusals 1, 4, 5, 6, 7. */
 foringamo_trace foringamo_inline_trace(const uint8_t *text, size_t text_len, size_t index, uint8_t carry, uint8_t *out, size_t out_len);
 
 /* The record of a number, counted from 0. The first bad record on the way decides; later ones are not looked at. Refusals 8, 9. */

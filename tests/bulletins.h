@@ -24,6 +24,16 @@ static inline screen_case case_of(const char *bulletin, const char *shown) {
     return row;
 }
 
+/* Writes bytes so many times, and gives the place behind. */
+static inline uint8_t *repeat(uint8_t *to, const char *bytes, size_t times) {
+    size_t length = strlen(bytes);
+    for (size_t i = 0; i < times; i++) {
+        memcpy(to, bytes, length);
+        to += length;
+    }
+    return to;
+}
+
 /* What a byte of a bulletin is: outside of HTML, in it, or in it where a tag counts. */
 enum { OUTSIDE, INSIDE, COUNTS };
 

@@ -7,7 +7,7 @@
 #include "bulletins.h"
 
 /* The filter's buffer: what the longest bulletin becomes at most, and some bytes past that. */
-enum { MOST = 16000 / 5 * 8, PAST = 8 };
+enum { MOST = LIMIT / 5 * 8, PAST = 8 };
 static uint8_t wide[MOST + 2 * PAST];
 
 /* Whether the filter, with so much room, shows what it should, or is refused by 7 where that is longer; the bytes behind stay as they are. */
@@ -36,8 +36,8 @@ static int stays(const char *bulletin) {
 }
 
 static void filter(void) {
-    REFUSES_WRITTEN(1, foringamo_filter(big, 16001, zeros, 1, out, ROOM));
-    REFUSES_WRITTEN(1, foringamo_filter(big, 16001, wrong, 2, out, 0));
+    REFUSES_WRITTEN(1, foringamo_filter(big, LIMIT + 1, zeros, 1, out, ROOM));
+    REFUSES_WRITTEN(1, foringamo_filter(big, LIMIT + 1, wrong, 2, out, 0));
     REFUSES_WRITTEN(2, foringamo_filter(TEXT("a\nb"), zeros, 3, out, ROOM));
     REFUSES_WRITTEN(2, foringamo_filter(TEXT("a"), wrong, 2, out, 0));
     REFUSES_WRITTEN(2, foringamo_filter(NOWHERE, 0, NOWHERE, 0, out, ROOM));
@@ -45,7 +45,7 @@ static void filter(void) {
     REFUSES_WRITTEN(3, foringamo_filter(TEXT("a\nb"), wrong, 2, out, 0));
     REFUSES_WRITTEN(7, foringamo_filter(TEXT("a"), zeros, 1, NOWHERE, 0));
     REFUSES_WRITTEN(7, foringamo_filter(TEXT("<xmp>"), zeros, 1, out, 7));
-    REFUSES_WRITTEN(7, foringamo_filter(big, 16000, zeros, 1, out, ROOM));
+    REFUSES_WRITTEN(7, foringamo_filter(big, LIMIT, zeros, 1, out, ROOM));
 
     /* The example of the GitHub Flavored Markdown Spec, in every room. */
     screen_case row = case_of("<strong> <title> <style> <em>\n\n<blockquote>\n  <xmp> is disallowed.  <XMP> is also disallowed.\n</blockquote>\n",
@@ -246,34 +246,26 @@ static void filter_flags(void) {
     CHECK(becomes_by(interrupt, "a\n<xmp title='<xmp>'>", "a\n&lt;xmp title='<xmp>'>"));
 }
 
-/* Writes bytes so many times, and gives the place behind. */
-static uint8_t *repeat(uint8_t *to, const char *bytes, size_t times) {
-    for (size_t i = 0; i < times; i++) {
-        memcpy(to, bytes, strlen(bytes));
-        to += strlen(bytes);
-    }
-    return to;
-}
-
 /* The longest bulletin with as many tags as it can have. */
 static void filter_longest(void) {
-    static uint8_t longest[16000], shown[MOST];
-    screen_case row = {longest, sizeof longest, zeros, 1, shown, 25600};
+    enum { TAGS = LIMIT / 5 };
+    static uint8_t longest[LIMIT], shown[MOST];
+    screen_case row = {longest, LIMIT, zeros, 1, shown, MOST};
 
     /* Inline pieces. */
-    CHECK(repeat(longest, "<xmp>", 3200) == longest + sizeof longest);
-    CHECK(repeat(shown, "&lt;xmp>", 3200) == shown + 25600);
-    CHECK(filters_in(&row, 25600));
-    CHECK(filters_in(&row, 25600 + PAST));
-    CHECK(filters_in(&row, 25599));
-    CHECK(filters_in(&row, 16000));
-    CHECK(is_written(foringamo_filter(longest, sizeof longest, zeros, 1, NOWHERE, 0), 7, 0));
+    CHECK(repeat(longest, "<xmp>", TAGS) == longest + LIMIT);
+    CHECK(repeat(shown, "&lt;xmp>", TAGS) == shown + MOST);
+    CHECK(filters_in(&row, MOST));
+    CHECK(filters_in(&row, MOST + PAST));
+    CHECK(filters_in(&row, MOST - 1));
+    CHECK(filters_in(&row, LIMIT));
+    CHECK(is_written(foringamo_filter(longest, LIMIT, zeros, 1, NOWHERE, 0), 7, 0));
 
-    /* A block of kind 7. */
-    CHECK(repeat(repeat(repeat(longest, "<xmp>\n", 1), "<xmp>", 3198), "a", 4) == longest + sizeof longest);
-    CHECK(repeat(repeat(repeat(shown, "&lt;xmp>\n", 1), "&lt;xmp>", 3198), "a", 4) == shown + 25597);
+    /* A block of kind 7: a line ending and four letters stand in place of a tag. */
+    CHECK(repeat(repeat(repeat(longest, "<xmp>\n", 1), "<xmp>", TAGS - 2), "a", 4) == longest + LIMIT);
+    row.shown_length = (size_t)(repeat(repeat(repeat(shown, "&lt;xmp>\n", 1), "&lt;xmp>", TAGS - 2), "a", 4) - shown);
+    CHECK(row.shown_length == MOST - 3);
     row.lines = 2;
-    row.shown_length = 25597;
     CHECK(filters(&row));
 }
 

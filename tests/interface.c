@@ -1,7 +1,7 @@
 /*
  * The C interface: the layout of its structs, the count of lines, the names in their places, each first byte of a name, every refusal, what becomes of the output
- * buffer, and where the two readings part; tests/filter.c has the tag filter. tests/interface.sh builds and runs both. A line for each check that fails; the last
- * line is 'N passed, M failed'.
+ * buffer, and where the two readings part; tests/filter.c has the tag filter, tests/long.c long bulletins. tests/interface.sh builds and runs all three. A line for
+ * each check that fails; the last line is 'N passed, M failed'.
  */
 #include <ctype.h>
 
@@ -38,7 +38,7 @@ static void layout(void) {
 
 /* As withholding sees it: with so many flags a bulletin is not refused by their count, with one fewer or more it is. */
 static int takes_flags(const uint8_t *text, size_t length, size_t lines) {
-    static uint8_t shown[16000];
+    static uint8_t shown[LIMIT];
     return foringamo_withhold(text, length, zeros, lines, shown, sizeof shown).refusal == 0 &&
            foringamo_withhold(text, length, zeros, lines - 1, shown, sizeof shown).refusal == 2 &&
            foringamo_withhold(text, length, zeros, lines + 1, shown, sizeof shown).refusal == 2;
@@ -87,27 +87,26 @@ static void count_lines(void) {
     }
 
     /* The longest bulletin, and above: every length is counted. */
-    CHECK(has_lines(big, 16000, 1));
+    CHECK(has_lines(big, LIMIT, 1));
     CHECK(foringamo_count_lines(big, sizeof big) == 1);
-    static uint8_t long_text[1000001];
+    static uint8_t long_text[2 * LIMIT + 1];
     memset(long_text, '\n', sizeof long_text);
-    CHECK(foringamo_count_lines(long_text, 16000) == 16001);
-    CHECK(takes_flags(long_text, 16000, 16001));
-    CHECK(foringamo_count_lines(long_text, 16001) == 16002);
+    CHECK(has_lines(long_text, LIMIT, LIMIT + 1));
+    CHECK(foringamo_count_lines(long_text, LIMIT + 1) == LIMIT + 2);
     CHECK(foringamo_count_lines(long_text, sizeof long_text) == sizeof long_text + 1);
     memset(long_text, '\r', sizeof long_text);
     CHECK(foringamo_count_lines(long_text, sizeof long_text) == sizeof long_text + 1);
     for (size_t i = 1; i < sizeof long_text; i += 2) {
         long_text[i] = '\n';
     }
-    CHECK(foringamo_count_lines(long_text, sizeof long_text - 1) == 500001);
-    CHECK(foringamo_count_lines(long_text, sizeof long_text) == 500002);
+    CHECK(foringamo_count_lines(long_text, 2 * LIMIT) == LIMIT + 1);
+    CHECK(foringamo_count_lines(long_text, 2 * LIMIT + 1) == LIMIT + 2);
 }
 
 static void block_scan(const reading *by) {
-    CHECK(is_block(by->block_scan(big, 16001, zeros, 1, 0), 1, 0, 0, 255, 0, 0));
-    CHECK(is_block(by->block_scan(big, 16001, wrong, 2, 7), 1, 0, 0, 255, 0, 0));
-    CHECK(is_block(by->block_scan(big, 16000, zeros, 1, 0), 0, 0, 0, 255, 0, 0));
+    CHECK(is_block(by->block_scan(big, LIMIT + 1, zeros, 1, 0), 1, 0, 0, 255, 0, 0));
+    CHECK(is_block(by->block_scan(big, LIMIT + 1, wrong, 2, 7), 1, 0, 0, 255, 0, 0));
+    CHECK(is_block(by->block_scan(big, LIMIT, zeros, 1, 0), 0, 0, 0, 255, 0, 0));
     CHECK(is_block(by->block_scan(TEXT("<div>"), NOWHERE, 0, 0), 2, 0, 0, 255, 0, 0));
     CHECK(is_block(by->block_scan(TEXT("<div>"), zeros, 2, 0), 2, 0, 0, 255, 0, 0));
     CHECK(is_block(by->block_scan(TEXT("<div>"), wrong, 2, 1), 2, 0, 0, 255, 0, 0));
@@ -257,8 +256,8 @@ static void first_bytes(void) {
 }
 
 static void inline_scan(const reading *by) {
-    CHECK(is_inline(by->inline_scan(big, 16001, 0, 3), 1, 0, 3, 0));
-    CHECK(is_inline(by->inline_scan(big, 16001, 16002, 9), 1, 0, 9, 0));
+    CHECK(is_inline(by->inline_scan(big, LIMIT + 1, 0, 3), 1, 0, 3, 0));
+    CHECK(is_inline(by->inline_scan(big, LIMIT + 1, LIMIT + 2, 9), 1, 0, 9, 0));
     CHECK(is_inline(by->inline_scan(TEXT("<b>"), 4, 3), 4, 0, 3, 0));
     CHECK(is_inline(by->inline_scan(TEXT("<b>"), SIZE_MAX, 9), 4, 0, 9, 0));
     CHECK(is_inline(by->inline_scan(TEXT("<b>"), 0, 6), 5, 0, 6, 0));
@@ -273,14 +272,21 @@ static void inline_scan(const reading *by) {
 }
 
 static void block_trace(void) {
-    REFUSES_WRITTEN(1, foringamo_block_trace(big, 16001, zeros, 1, 0, out, ROOM));
+    REFUSES_WRITTEN(1, foringamo_block_trace(big, LIMIT + 1, zeros, 1, 0, out, ROOM));
+    REFUSES_WRITTEN(1, foringamo_block_trace(big, LIMIT + 1, wrong, 2, 7, out, 0));
     REFUSES_WRITTEN(2, foringamo_block_trace(TEXT("<div>"), zeros, 2, 0, out, ROOM));
     REFUSES_WRITTEN(3, foringamo_block_trace(TEXT("<div>"), wrong, 1, 0, out, ROOM));
     REFUSES_WRITTEN(4, foringamo_block_trace(TEXT("<div>"), zeros, 1, 1, out, ROOM));
     REFUSES_WRITTEN(4, foringamo_block_trace(TEXT("<div>"), zeros, 1, 1, out, 0));
     REFUSES_WRITTEN(7, foringamo_block_trace(TEXT("<div>"), zeros, 1, 0, NOWHERE, 0));
 
-    const uint8_t div[] = {1, 1, 0, 1, 0, 0, 0, 0, 3, 1, 0, 1, 0, 0, 0, 0, 4, 1, 0, 6, 0, 5, 0, 0, 2, 1, 0, 6, 0, 5, 0, 0, 14, 5, 0, 6};
+    const uint8_t div[] = {
+        1, 1, 0, 0, 0, 1, 0, 0, 0, 0, 0, 0, 0, 0,
+        3, 1, 0, 0, 0, 1, 0, 0, 0, 0, 0, 0, 0, 0,
+        4, 1, 0, 0, 0, 6, 0, 0, 0, 5, 0, 0, 0, 0,
+        2, 1, 0, 0, 0, 6, 0, 0, 0, 5, 0, 0, 0, 0,
+        14, 5, 0, 0, 0, 6,
+    };
     for (size_t room = 0; room <= ROOM; room++) {
         fill();
         foringamo_trace r = foringamo_block_trace(TEXT("<div>"), zeros, 1, 0, out, room);
@@ -291,20 +297,24 @@ static void block_trace(void) {
         }
     }
 
-    const uint8_t none[] = {14, 2, 0, 0};
+    const uint8_t none[] = {14, 2, 0, 0, 0, 0};
     fill();
-    CHECK(is_written(foringamo_block_trace(TEXT("<\nx"), zeros, 2, 2, out, ROOM), 0, 4) && has(none, 4));
-    REFUSES_WRITTEN(7, foringamo_block_trace(TEXT("<\nx"), zeros, 2, 2, out, 3));
+    CHECK(is_written(foringamo_block_trace(TEXT("<\nx"), zeros, 2, 2, out, ROOM), 0, LAST) && has(none, LAST));
+    REFUSES_WRITTEN(7, foringamo_block_trace(TEXT("<\nx"), zeros, 2, 2, out, LAST - 1));
 }
 
-/* 01, Traces: that of `<b>`. */
+/* 01, Traces; 02, Ask 7: that of `<b>`. */
 static const uint8_t b[] = {
-    0x07, 0x01, 0x00, 0x01, 0x00, 0x00, 0x00, 0x00, 0x09, 0x01, 0x00, 0x01, 0x00, 0x00, 0x00, 0x00, 0x0a, 0x01,
-    0x00, 0x04, 0x00, 0x03, 0x00, 0x00, 0x08, 0x01, 0x00, 0x04, 0x00, 0x03, 0x00, 0x00, 0x0d, 0x03, 0x00, 0x00,
+    0x07, 0x01, 0x00, 0x00, 0x00, 0x01, 0x00, 0x00, 0x00, 0x00, 0x00, 0x00, 0x00, 0x00,
+    0x09, 0x01, 0x00, 0x00, 0x00, 0x01, 0x00, 0x00, 0x00, 0x00, 0x00, 0x00, 0x00, 0x00,
+    0x0a, 0x01, 0x00, 0x00, 0x00, 0x04, 0x00, 0x00, 0x00, 0x03, 0x00, 0x00, 0x00, 0x00,
+    0x08, 0x01, 0x00, 0x00, 0x00, 0x04, 0x00, 0x00, 0x00, 0x03, 0x00, 0x00, 0x00, 0x00,
+    0x0d, 0x03, 0x00, 0x00, 0x00, 0x00,
 };
 
 static void inline_trace(void) {
-    REFUSES_WRITTEN(1, foringamo_inline_trace(big, 16001, 0, 0, out, ROOM));
+    REFUSES_WRITTEN(1, foringamo_inline_trace(big, LIMIT + 1, 0, 0, out, ROOM));
+    REFUSES_WRITTEN(1, foringamo_inline_trace(big, LIMIT + 1, LIMIT + 2, 9, out, 0));
     REFUSES_WRITTEN(4, foringamo_inline_trace(TEXT("<b>"), 4, 0, out, ROOM));
     REFUSES_WRITTEN(5, foringamo_inline_trace(TEXT("<b>"), 0, 6, out, ROOM));
     REFUSES_WRITTEN(6, foringamo_inline_trace(TEXT("<b>\n\nx"), 0, 0, out, ROOM));
@@ -321,10 +331,10 @@ static void inline_trace(void) {
         }
     }
 
-    const uint8_t none[] = {13, 1, 0, 5};
+    const uint8_t none[] = {13, 1, 0, 0, 0, 5};
     fill();
-    CHECK(is_written(foringamo_inline_trace(TEXT("<b>"), 1, 5, out, ROOM), 0, 4) && has(none, 4));
-    REFUSES_WRITTEN(7, foringamo_inline_trace(TEXT("<b>"), 1, 5, out, 3));
+    CHECK(is_written(foringamo_inline_trace(TEXT("<b>"), 1, 5, out, ROOM), 0, LAST) && has(none, LAST));
+    REFUSES_WRITTEN(7, foringamo_inline_trace(TEXT("<b>"), 1, 5, out, LAST - 1));
 }
 
 static void read_trace(void) {
@@ -336,10 +346,12 @@ static void read_trace(void) {
     CHECK(is_record(foringamo_read_trace(b, sizeof b, 5), 9, 0, 0, 0, 0, 0));
     CHECK(is_record(foringamo_read_trace(b, sizeof b, SIZE_MAX), 9, 0, 0, 0, 0, 0));
 
-    const uint8_t event[] = {12, 2, 1, 4, 3, 6, 5, 7};
-    CHECK(is_record(foringamo_read_trace(event, sizeof event, 0), 0, 12, 7, 258, 772, 1286));
-    const uint8_t last[] = {14, 2, 1, 6};
-    CHECK(is_record(foringamo_read_trace(last, sizeof last, 0), 0, 14, 6, 0, 0, 258));
+    const uint8_t event[] = {12, 4, 3, 2, 1, 8, 7, 6, 5, 12, 11, 10, 9, 13};
+    CHECK(is_record(foringamo_read_trace(event, sizeof event, 0), 0, 12, 13, 0x01020304, 0x05060708, 0x090a0b0c));
+    const uint8_t last[] = {14, 4, 3, 2, 1, 5};
+    CHECK(is_record(foringamo_read_trace(last, sizeof last, 0), 0, 14, 5, 0, 0, 0x01020304));
+    const uint8_t greatest[] = {11, 255, 255, 255, 255, 255, 255, 255, 255, 255, 255, 255, 255, 255};
+    CHECK(is_record(foringamo_read_trace(greatest, sizeof greatest, 0), 0, 11, 255, UINT32_MAX, UINT32_MAX, UINT32_MAX));
     CHECK(is_record(foringamo_read_trace(NOWHERE, 0, 0), 9, 0, 0, 0, 0, 0));
     for (size_t length = 0; length < sizeof event; length++) {
         CHECK(is_record(foringamo_read_trace(event, length, 0), 9, 0, 0, 0, 0, 0));
@@ -350,7 +362,7 @@ static void read_trace(void) {
 
     /* Every kind byte, with a whole record behind it. */
     for (int kind = 0; kind < 256; kind++) {
-        uint8_t bytes[8] = {0, 1, 0, 2, 0, 3, 0, 4};
+        uint8_t bytes[EVENT] = {0, 1, 0, 0, 0, 2, 0, 0, 0, 3, 0, 0, 0, 4};
         bytes[0] = (uint8_t)kind;
         foringamo_record r = foringamo_read_trace(bytes, sizeof bytes, 0);
         if (kind == 0 || kind > 14) {
@@ -363,26 +375,26 @@ static void read_trace(void) {
     }
 
     /* The first bad record on the way decides; later ones are not looked at. */
-    const uint8_t bad[] = {13, 0, 0, 0, 0, 13, 0};
+    const uint8_t bad[] = {13, 0, 0, 0, 0, 0, 0, 13, 0};
     CHECK(is_record(foringamo_read_trace(bad, sizeof bad, 0), 0, 13, 0, 0, 0, 0));
     CHECK(is_record(foringamo_read_trace(bad, sizeof bad, 1), 8, 0, 0, 0, 0, 0));
     CHECK(is_record(foringamo_read_trace(bad, sizeof bad, 2), 8, 0, 0, 0, 0, 0));
-    const uint8_t cut[] = {13, 0, 0, 0, 13, 0};
+    const uint8_t cut[] = {13, 0, 0, 0, 0, 0, 13, 0};
     CHECK(is_record(foringamo_read_trace(cut, sizeof cut, 0), 0, 13, 0, 0, 0, 0));
     CHECK(is_record(foringamo_read_trace(cut, sizeof cut, 1), 9, 0, 0, 0, 0, 0));
     CHECK(is_record(foringamo_read_trace(cut, sizeof cut, 2), 9, 0, 0, 0, 0, 0));
 }
 
 static void withhold(const reading *by) {
-    REFUSES_SHOWN(1, by->withhold(big, 16001, zeros, 1, out, ROOM));
-    REFUSES_SHOWN(1, by->withhold(big, 16001, wrong, 2, out, 0));
+    REFUSES_SHOWN(1, by->withhold(big, LIMIT + 1, zeros, 1, out, ROOM));
+    REFUSES_SHOWN(1, by->withhold(big, LIMIT + 1, wrong, 2, out, 0));
     REFUSES_SHOWN(2, by->withhold(TEXT("a\nb"), zeros, 3, out, ROOM));
     REFUSES_SHOWN(2, by->withhold(TEXT("a"), wrong, 2, out, 0));
     REFUSES_SHOWN(2, by->withhold(NOWHERE, 0, NOWHERE, 0, out, ROOM));
     REFUSES_SHOWN(3, by->withhold(TEXT("a\nb"), wrong, 2, out, ROOM));
     REFUSES_SHOWN(3, by->withhold(TEXT("a\nb"), wrong, 2, out, 0));
     REFUSES_SHOWN(7, by->withhold(TEXT("a"), zeros, 1, NOWHERE, 0));
-    REFUSES_SHOWN(7, by->withhold(big, 16000, zeros, 1, out, ROOM));
+    REFUSES_SHOWN(7, by->withhold(big, LIMIT, zeros, 1, out, ROOM));
 
     /* 01, The added screen. */
     const char shown[] = "door 9\n\n\nok";
@@ -540,12 +552,13 @@ static void backslashes(const reading *by) {
 
 /* The longest run that a bulletin with a tag can have, and one byte less. */
 static void longest_runs(const reading *by) {
-    static uint8_t text[16000], shown[16000];
+    enum { BEHIND = 4, LONGEST = LIMIT - BEHIND };
+    static uint8_t text[LIMIT], shown[LIMIT];
     memset(text, '\\', sizeof text);
-    memcpy(text + 15996, "<b>x", 4);
-    for (size_t run = 15995; run <= 15996; run++) {
-        const uint8_t *bulletin = text + (15996 - run);
-        size_t length = run + 4;
+    memcpy(text + LONGEST, "<b>x", BEHIND);
+    for (size_t run = LONGEST - 1; run <= LONGEST; run++) {
+        const uint8_t *bulletin = text + (LONGEST - run);
+        size_t length = run + BEHIND;
         foringamo_shown r = by->withhold(bulletin, length, zeros, 1, shown, sizeof shown);
         if (run % 2 == 1) {
             CHECK(is_shown(r, 0, length, 0) && memcmp(shown, bulletin, length) == 0);

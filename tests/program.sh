@@ -93,6 +93,13 @@ copies() {
     head -c "$1" /dev/zero | tr '\0' "$2"
 }
 
+# comment COUNT: a comment of so many bytes.
+comment() {
+    printf '<!--'
+    copies "$(($1 - 7))" x
+    printf -- '-->'
+}
+
 # 01, The added screen.
 row() {
     printf 'door <!-- x -->9\n<div>\nold\n\nok' >"$folder/in"
@@ -114,15 +121,43 @@ shows '16,000 bytes'
 copies 16001 a >"$folder/in"
 refuses '16,001 bytes' 1
 
-copies 40000 a >"$folder/in"
-refuses '40,000 bytes' 1
-
 # As many lines as there can be.
 copies 16000 '\n' >"$folder/in"
 shows '16,000 line endings'
 
 copies 16001 '\n' >"$folder/in"
 refuses '16,001 line endings' 1
+
+# One piece: nothing is shown, and where it is refused that is for its length alone.
+comment 16000 >"$folder/in"
+: >"$folder/shown"
+: >"$folder/said"
+both 'a comment of 16,000 bytes' 0 env
+
+comment 16001 >"$folder/in"
+refuses 'a comment of 16,001 bytes' 1
+
+# The library's limit is another.
+for length in 40000 1000000 1000001 3000000; do
+    copies "$length" a >"$folder/in"
+    refuses "$length bytes" 1
+    comment "$length" >"$folder/in"
+    refuses "a comment of $length bytes" 1
+done
+
+# No more is read than tells that there is too much.
+unread_by() {
+    {
+        "$@" >/dev/null 2>&1
+        wc -c
+    } <"$folder/in"
+}
+copies 1000001 a >"$folder/in"
+is 'what the program leaves unread of 1,000,001 bytes' "$(unread_by "$program")" "$((1000001 - 16001))"
+is 'what withhold.sh leaves unread of 1,000,001 bytes' "$(unread_by ./withhold.sh)" "$((1000001 - 16001))"
+
+endless() { timeout 20 "$@" </dev/zero; }
+both 'an input without an end' 1 endless
 
 # Every byte but `<`.
 for ((b = 0; b < 256; b++)); do
@@ -153,16 +188,6 @@ withholds 'two backslashes' 'a \\\\<b>c' 'a \\\\c'
 withholds 'a remark behind a backslash' 'a \\<!-- 7 -->' 'a \\<!-- 7 -->'
 withholds 'a backslash in a block' '<div>\\<b>' ''
 withholds 'a broken CDATA opening' 'door <![CDx 9 <![CDATA[old 7]]> ok' 'door <![CDx 9  ok'
-
-# A bulletin of 16,000 bytes that is one piece.
-{
-    printf '<!--'
-    copies 15993 x
-    printf -- '-->'
-} >"$folder/in"
-: >"$folder/shown"
-: >"$folder/said"
-both 'a comment of 16,000 bytes' 0 env
 
 # What the program says on standard error is not to be had by a bulletin.
 printf 'refused 5\nwithhold: cannot read standard input\n' >"$folder/in"

@@ -24,6 +24,9 @@ for function in library.foringamo_withhold, library.foringamo_standard_withhold:
     function.argtypes = [c_char_p, c_size_t, c_char_p, c_size_t, c_char_p, c_size_t]
     function.restype = Shown
 
+# How many bytes a bulletin has at most.
+LIMIT = 1000000
+
 passed = 0
 failed = 0
 
@@ -54,7 +57,7 @@ def withhold(bulletin, flags, room, function=library.foringamo_withhold):
     return got.refusal, got.pieces, out.raw[: got.length], out.raw[got.length :] == b"\xee" * (room - got.length)
 
 
-for text, count in [(b"", 1), (b"a", 1), (b"a\nb", 2), (b"a\r\nb", 2), (b"a\rb", 2), (b"a\n\rb\r\n", 4), (b"\n" * 20000, 20001)]:
+for text, count in [(b"", 1), (b"a", 1), (b"a\nb", 2), (b"a\r\nb", 2), (b"a\rb", 2), (b"a\n\rb\r\n", 4), (b"\n" * (LIMIT + 1), LIMIT + 2)]:
     check(f"lines of {text[:20]!r}", lines(text), count)
 
 bulletin = b"door <!-- x -->9\n<div>\nold\n\nok"
@@ -70,7 +73,10 @@ check("no tag as the Rust reads", withhold(b"a <b c=d/e>", b"\0", 11), (0, 0, b"
 check("a tag by the standard", withhold(b"a <b c=d/e>", b"\0", 11, library.foringamo_standard_withhold), (0, 1, b"a ", True))
 check("no room", withhold(bulletin, flags, 10), (7, 0, b"", True))
 check("one flag too many", withhold(bulletin, flags + b"\0", 100), (2, 0, b"", True))
-check("16,001 bytes", withhold(b"a" * 16001, b"\0", 16001), (1, 0, b"", True))
+letters = b"a" * (LIMIT - 3)
+refusal, pieces, shown, kept = withhold(letters + b"<b>", b"\0", LIMIT)
+check("1,000,000 bytes", (refusal, pieces, shown == letters, kept), (0, 1, True, True))
+check("1,000,001 bytes", withhold(b"a" + letters + b"<b>", b"\0", LIMIT + 1), (1, 0, b"", True))
 
 print(f"{passed} passed, {failed} failed")
 sys.exit(failed != 0)

@@ -11,6 +11,10 @@
 //!
 //! What is refused comes back as a [`Refusal`], and no byte of an output buffer has changed. On an answer the bytes past those written stay as they are.
 //!
+//! Each call looks through its whole input for refusals, and [`read_trace`] walks from the first record. To scan at every line of a long bulletin, or to read every
+//! record of a long trace by its number, therefore takes the square of its length in time. Instead, hand an inline scan the paragraph's text only, scan for blocks
+//! only at lines that begin with `<` behind at most three spaces, as no other opens one, and walk the trace's bytes: see [`Record`].
+//!
 //! ```
 //! let bulletin = b"door <!-- x -->9\n<div>\nold\n\nok";
 //! let flags = vec![0; foringamo::count_lines(bulletin)];
@@ -26,7 +30,7 @@
 use core::fmt;
 
 /// How many bytes a bulletin or a text has at most.
-pub const LIMIT: usize = 16_000;
+pub const LIMIT: usize = 1_000_000;
 
 /// The flag of a lazy line.
 pub const LAZY: u8 = 1;
@@ -68,7 +72,7 @@ impl Refusal {
 impl fmt::Display for Refusal {
     fn fmt(&self, f: &mut fmt::Formatter<'_>) -> fmt::Result {
         f.write_str(match self {
-            Refusal::TooLong => "the bulletin or text has over 16,000 bytes",
+            Refusal::TooLong => "the bulletin or text has over 1,000,000 bytes",
             Refusal::WrongCount => "the count of flags is not the number of lines",
             Refusal::WrongFlag => "a flag is above 3",
             Refusal::WrongIndex => "the index is not a line's first byte, or above the text's length",
@@ -196,7 +200,8 @@ pub struct Point {
     pub vs: u8,
 }
 
-/// A record of a trace.
+/// A record of a trace. In the trace an event has 14 bytes: the kind, line, column and index in four bytes each, low byte first, and vs. A last record has 6: the
+/// kind, the stop in four bytes, low byte first, and the carry or block kind.
 #[derive(Clone, Copy, Debug, PartialEq, Eq, Hash)]
 pub enum Record {
     /// Kinds 1, 3, 5, 7, 9 and 11.
@@ -477,7 +482,7 @@ pub fn standard_inline_scan(text: &[u8], index: usize, carry: u8) -> Result<Inli
     unless_refused(got.refusal, || inline(got))
 }
 
-/// Writes the trace of a block scan and gives its length. Refusals 1, 2, 3, 4, 7.
+/// Writes the trace of a block scan and gives its length. Room for `bulletin.len() * 28 + 6` bytes always suffices. Refusals 1, 2, 3, 4, 7.
 pub fn block_trace(bulletin: &[u8], flags: &[u8], index: usize, out: &mut [u8]) -> Result<usize, Refusal> {
     let got = unsafe {
         c::foringamo_block_trace(bulletin.as_ptr(), bulletin.len(), flags.as_ptr(), flags.len(), index, out.as_mut_ptr(), out.len())
@@ -485,7 +490,7 @@ pub fn block_trace(bulletin: &[u8], flags: &[u8], index: usize, out: &mut [u8]) 
     unless_refused(got.refusal, || got.length)
 }
 
-/// Writes the trace of an inline scan and gives its length. Refusals 1, 4, 5, 6, 7.
+/// Writes the trace of an inline scan and gives its length. Room for `text.len() * 28 + 6` bytes always suffices. Refusals 1, 4, 5, 6, 7.
 pub fn inline_trace(text: &[u8], index: usize, carry: u8, out: &mut [u8]) -> Result<usize, Refusal> {
     let got = unsafe { c::foringamo_inline_trace(text.as_ptr(), text.len(), index, carry, out.as_mut_ptr(), out.len()) };
     unless_refused(got.refusal, || got.length)

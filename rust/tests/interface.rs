@@ -10,6 +10,9 @@ use foringamo::{
 
 const FILL: u8 = 0xee;
 
+// The length of a trace of four events, which a piece within a line has.
+const WITHIN: usize = 4 * 14 + 6;
+
 // A text one byte above the limit.
 fn long() -> Vec<u8> {
     vec![b'a'; LIMIT + 1]
@@ -53,20 +56,46 @@ fn lines() {
     assert_eq!(count_lines(&vec![b'\n'; LIMIT + 1]), LIMIT + 2);
 }
 
+// Up to the limit a text is taken: shown as it is, with nothing found at its end.
 #[test]
 fn limit() {
     let text = long();
     let mut out = vec![0; text.len()];
-    assert_eq!(withhold(&text[..LIMIT], &[0], &mut out), Ok(Shown { length: LIMIT, pieces: 0 }));
-    assert_eq!(out[..LIMIT], text[..LIMIT]);
+    for length in [LIMIT - 1, LIMIT] {
+        let text = &text[..length];
+        let missing = Ok(Inline::Missing { carry: 0 });
+        for withhold in [withhold, standard_withhold] {
+            out.fill(FILL);
+            assert_eq!(withhold(text, &[0], &mut out), Ok(Shown { length, pieces: 0 }));
+            assert!(out[..length] == *text && out[length..].iter().all(|&b| b == FILL));
+        }
+        out.fill(FILL);
+        assert_eq!(filter(text, &[0], &mut out), Ok(length));
+        assert!(out[..length] == *text && out[length..].iter().all(|&b| b == FILL));
+        assert_eq!((block_scan(text, &[0], 0), standard_block_scan(text, &[0], 0)), (Ok(None), Ok(None)));
+        assert_eq!((inline_scan(text, length, 0), standard_inline_scan(text, length, 0)), (missing, missing));
+        let traced = block_trace(text, &[0], 0, &mut out).expect("not refused");
+        assert_eq!(read_trace(&out[..traced], 0), Ok(Record::LastBlock { stop: 0, kind: 0 }));
+        let traced = inline_trace(text, length, 5, &mut out).expect("not refused");
+        assert_eq!(read_trace(&out[..traced], 0), Ok(Record::LastInline { stop: length, carry: 5 }));
+    }
+}
+
+// One byte above it every function refuses the text, and no byte of the buffer changes.
+#[test]
+fn above_the_limit() {
+    let text = long();
+    let mut out = vec![FILL; text.len()];
     assert_eq!(withhold(&text, &[0], &mut out), Err(Refusal::TooLong));
-    assert_eq!(filter(&text[..LIMIT], &[0], &mut out), Ok(LIMIT));
-    assert_eq!(out[..LIMIT], text[..LIMIT]);
+    assert_eq!(standard_withhold(&text, &[0], &mut out), Err(Refusal::TooLong));
     assert_eq!(filter(&text, &[0], &mut out), Err(Refusal::TooLong));
     assert_eq!(block_scan(&text, &[0], 0), Err(Refusal::TooLong));
+    assert_eq!(standard_block_scan(&text, &[0], 0), Err(Refusal::TooLong));
     assert_eq!(inline_scan(&text, 0, 0), Err(Refusal::TooLong));
+    assert_eq!(standard_inline_scan(&text, 0, 0), Err(Refusal::TooLong));
     assert_eq!(block_trace(&text, &[0], 0, &mut out), Err(Refusal::TooLong));
     assert_eq!(inline_trace(&text, 0, 0, &mut out), Err(Refusal::TooLong));
+    assert!(out.iter().all(|&b| b == FILL));
 }
 
 #[test]
@@ -257,7 +286,7 @@ fn traces() {
     let mut out = [FILL; 64];
 
     let length = inline_trace(b"<b>", 0, 0, &mut out).expect("not refused");
-    assert_eq!(length, 36);
+    assert_eq!(length, WITHIN);
     assert!(out[length..].iter().all(|&b| b == FILL));
     let records = [
         Record::Enter(Name::HtmlText, point(1, 1, 0)),
@@ -283,23 +312,41 @@ fn traces() {
         assert_eq!(read_trace(&out[..length], number), Ok(record));
     }
 
-    let mut small = [FILL; 35];
+    let mut small = [FILL; WITHIN - 1];
     assert_eq!(inline_trace(b"<b>", 0, 0, &mut small), Err(Refusal::NoRoom));
     assert_eq!(block_trace(b"<div>", &[0], 0, &mut small), Err(Refusal::NoRoom));
-    assert_eq!(small, [FILL; 35]);
+    assert_eq!(small, [FILL; WITHIN - 1]);
+}
+
+// The exits of a piece behind so many lines of two bytes, and of a block whose line has so many tabs: numbers above two bytes.
+#[test]
+fn far_traces() {
+    const FAR: usize = 70_000;
+    let mut out = [FILL; WITHIN];
+    let text = [&b"a\n".repeat(FAR)[..], b"<b>"].concat();
+    let exit = Point { line: FAR + 1, column: 4, index: 2 * FAR + 3, vs: 0 };
+    assert_eq!(inline_trace(&text, 2 * FAR, 0, &mut out), Ok(out.len()));
+    assert_eq!(read_trace(&out, 3), Ok(Record::Exit(Name::HtmlText, exit)));
+    assert_eq!(read_trace(&out, 4), Ok(Record::LastInline { stop: exit.index, carry: 0 }));
+
+    let text = [&b"<!--"[..], &b"\t".repeat(FAR)[..]].concat();
+    let exit = Point { line: 1, column: 4 * FAR + 5, index: FAR + 4, vs: 0 };
+    assert_eq!(block_trace(&text, &[0], 0, &mut out), Ok(out.len()));
+    assert_eq!(read_trace(&out, 3), Ok(Record::Exit(Name::HtmlFlow, exit)));
+    assert_eq!(read_trace(&out, 4), Ok(Record::LastBlock { stop: exit.index, kind: Kind::Comment.number() }));
 }
 
 #[test]
 fn records() {
     let names = [Name::HtmlFlow, Name::HtmlFlowData, Name::LineEnding, Name::HtmlText, Name::HtmlTextData, Name::SpaceOrTab];
-    let point = Point { line: 1, column: 2, index: 3, vs: 4 };
+    let point = Point { line: 0x0102_0304, column: 0x0506_0708, index: 0x090a_0b0c, vs: 13 };
     for kind in 0..=255 {
-        let got = read_trace(&[kind, 1, 0, 2, 0, 3, 0, 4], 0);
+        let got = read_trace(&[kind, 4, 3, 2, 1, 8, 7, 6, 5, 12, 11, 10, 9, 13], 0);
         let expected = match kind {
             1..=12 if kind % 2 == 1 => Ok(Record::Enter(names[usize::from(kind - 1) / 2], point)),
             1..=12 => Ok(Record::Exit(names[usize::from(kind - 1) / 2], point)),
-            13 => Ok(Record::LastInline { stop: 1, carry: 2 }),
-            14 => Ok(Record::LastBlock { stop: 1, kind: 2 }),
+            13 => Ok(Record::LastInline { stop: 0x0102_0304, carry: 8 }),
+            14 => Ok(Record::LastBlock { stop: 0x0102_0304, kind: 8 }),
             _ => Err(Refusal::WrongKind),
         };
         assert_eq!(got, expected);
@@ -308,7 +355,7 @@ fn records() {
         }
     }
     // The block kind of a trace is the byte there, whatever it is.
-    assert_eq!(read_trace(&[14, 0, 0, 255], 0), Ok(Record::LastBlock { stop: 0, kind: 255 }));
+    assert_eq!(read_trace(&[14, 0, 0, 0, 0, 255], 0), Ok(Record::LastBlock { stop: 0, kind: 255 }));
 }
 
 #[test]
