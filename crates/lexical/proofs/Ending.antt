@@ -1,5 +1,5 @@
 -- Laws of line endings at an index of a text: what they are by the byte there and the one after it, and that they end within the text.
-use Rattle.std.proofs.Common.{◌≡◌, ℕ, zero, suc, ◌+◌, ◌-◌, ◌<◌, ◌≤◌, Bool, true, false, not, ◌&&◌, ◌||◌, eqb, List, [], ◌∷◌, length, get_or, drop, refl, ap, sub-one, arith, length-drop, drop-drop}
+use Rattle.std.proofs.Common.{◌≡◌, ℕ, zero, suc, ◌+◌, ◌-◌, ◌<◌, ◌≤◌, Bool, true, false, not, eqb, List, [], ◌∷◌, length, get_or, drop, refl, ap, sub-one, arith, length-drop, drop-drop}
 use Rattle.lexical.specs.Text.{byte, pick, first, run}
 use Rattle.lexical.specs.Byte.{isSpaceOrTab, isLineEndingByte}
 use Rattle.lexical.specs.Line.{lineEnding, endsLine, lineEndings, lines, isLineStart, lineLength, atLineEnd, isBlank}
@@ -19,12 +19,6 @@ module _ (s : List ℕ) (i : ℕ) where
   pub ending-out : length s ≤ i → lineEnding (drop i s) ≡ 0
   unfolding lineEnding
   ending-out h = rw (suffix-out s i h)
-
-  pub ends-in : i < length s
-      → endsLine (drop i s)
-      ≡ (eqb (get_or s i 0) (byte "\n") || (eqb (get_or s i 0) (byte "\r") && not (eqb (first (drop (i + 1) s)) (byte "\n"))))
-  unfolding endsLine
-  ends-in h = rw (suffix-in s i h)
 
   pub ends-out : length s ≤ i → endsLine (drop i s) ≡ false
   unfolding endsLine
