@@ -16,10 +16,6 @@ use Rattle.html.specs.Answer.{carryingOf}
 use Rattle.html.specs.declared.tokenizer.StateName.TheVariants.{Start}
 use Rattle.html.proofs.TextMeans.{start-is}
 
-pub pick-out : (f : ℕ → InlineAnswer) (b : Bool) (x y : ℕ) → f (pick b x y) ≡ pick b (f x) (f y)
-pick-out f true x y = refl
-pick-out f false x y = refl
-
 kept-answer : (n k : ℕ) (r : Read) → carryingOf k (inlineAnswer n r) ≡ inlineAnswer n (keeping k r)
 kept-answer n k (takes s c) = refl
 kept-answer n k (lacks c) = refl

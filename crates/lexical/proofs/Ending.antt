@@ -1,8 +1,8 @@
 -- Laws of line endings at an index of a text: what they are by the byte there and the one after it, and that they end within the text.
-use Rattle.std.proofs.Common.{◌≡◌, ℕ, zero, suc, ◌+◌, ◌-◌, ◌<◌, ◌≤◌, Bool, true, false, not, ◌&&◌, ◌||◌, eqb, List, [], ◌∷◌, length, get_or, drop, refl, ap, sub-one, arith, length-drop, drop-drop}
+use Rattle.std.proofs.Common.{◌≡◌, ℕ, zero, suc, ◌+◌, ◌-◌, ◌<◌, ◌≤◌, Bool, true, false, not, eqb, List, [], ◌∷◌, length, get_or, drop, refl, ap, sub-one, arith, length-drop, drop-drop}
 use Rattle.lexical.specs.Text.{byte, pick, first, run}
 use Rattle.lexical.specs.Byte.{isSpaceOrTab, isLineEndingByte}
-use Rattle.lexical.specs.Line.{lineEnding, endsLine, lineEndings, isLineStart, lineLength, atLineEnd, isBlank}
+use Rattle.lexical.specs.Line.{lineEnding, endsLine, lineEndings, lines, isLineStart, lineLength, atLineEnd, isBlank}
 use Rattle.lexical.proofs.Cases.{split, or-left, or-right}
 use Rattle.lexical.proofs.Suffix.{suffix-in, suffix-out}
 use Rattle.lexical.proofs.Run.{behind-at}
@@ -19,12 +19,6 @@ module _ (s : List ℕ) (i : ℕ) where
   pub ending-out : length s ≤ i → lineEnding (drop i s) ≡ 0
   unfolding lineEnding
   ending-out h = rw (suffix-out s i h)
-
-  pub ends-in : i < length s
-      → endsLine (drop i s)
-      ≡ (eqb (get_or s i 0) (byte "\n") || (eqb (get_or s i 0) (byte "\r") && not (eqb (first (drop (i + 1) s)) (byte "\n"))))
-  unfolding endsLine
-  ends-in h = rw (suffix-in s i h)
 
   pub ends-out : length s ≤ i → endsLine (drop i s) ≡ false
   unfolding endsLine
@@ -64,6 +58,17 @@ ending-length (x ∷ y ∷ ys) =
 -- an ending at an index of a text ends within it
 pub ending-within : (s : List ℕ) (i : ℕ) → i ≤ length s → i + lineEnding (drop i s) ≤ length s
 ending-within s i h = omega (arith, ending-length (drop i s), length-drop i s)
+
+-- ---- lines
+endings-most : (s : List ℕ) → lineEndings s ≤ length s
+unfolding lineEndings
+endings-most [] = omega arith
+endings-most (x ∷ xs) = let h = endings-most xs in split (endsLine (x ∷ xs)) (λ e. rw e (omega arith)) (λ e. rw e (omega arith))
+
+-- there is at most one line more than there are bytes
+pub lines-most : (s : List ℕ) → lines s ≤ length s + 1
+unfolding lines
+lines-most s = let h = endings-most s in omega arith
 
 -- ---- line starts and blank lines
 -- an index but 0 is a line's first byte where a line ends just before it

@@ -108,13 +108,6 @@ all-inner mark (x ∷ xs) =
     (λ l. split (eqb x (byte "\r")) (λ r. simp (h, l, r) (sym (ap (λ b. others mark xs && b) (and-no (others (byte "\n") xs)) ∙ and-no (others mark xs))))
     (λ r. simp (h, l, r) (all-inner mark xs))))
 
--- ---- with a mark that is a byte of a line ending, only those are looked for
-ending-mark : (b : ℕ) → isInner (byte "\n") b ≡ not (isLineEndingByte b)
-ending-mark b = split (eqb b (byte "\n")) (λ h. simp h) (λ h. simp h)
-
-pub line-length : (s : List ℕ) → run (isInner (byte "\n")) s ≡ lineLength s
-line-length s = run-same (isInner (byte "\n")) (λ b. not (isLineEndingByte b)) ending-mark s
-
 -- ---- a line ends where it does, seen from a mark in it
 inner-line : (mark i x : ℕ) (xs : List ℕ) → isInner mark x ≡ true → i + lineLength (x ∷ xs) ≡ i + 1 + lineLength xs
 unfolding run

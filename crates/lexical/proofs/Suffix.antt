@@ -1,5 +1,5 @@
 -- Laws of a text's suffix at an index: its first byte, and the suffix at the next index; and of the bytes between two indices.
-use Rattle.std.proofs.Common.{◌≡◌, ℕ, zero, suc, ◌+◌, ◌-◌, ◌<◌, ◌≤◌, List, [], ◌∷◌, ◌++◌, length, get_or, take, drop, sym, refl, ap, ◌∙◌, add-one, arith, length-drop, drop_of_length-le, take_all, drop-cons, drop-drop, take-add}
+use Rattle.std.proofs.Common.{◌≡◌, ℕ, zero, suc, ◌+◌, ◌-◌, ◌<◌, ◌≤◌, List, [], ◌∷◌, ◌++◌, length, get_or, take, drop, sym, refl, ap, ◌∙◌, add-one, arith, drop_of_length-le, drop-cons, drop-drop, take-add}
 use lib.Seq.{take-nil}
 use Rattle.lexical.specs.Text.{none, first}
 
@@ -19,18 +19,7 @@ module _ (s : List ℕ) (i : ℕ) where
   pub first-out : length s ≤ i → first (drop i s) ≡ none
   first-out h = rw (suffix-out h)
 
--- the bytes between two indices, as far as there are any
-module _ (s : List ℕ) (a e : ℕ) where
-  pub part-none : e ≤ a → take (e - a) (drop a s) ≡ []
-  part-none h = let z : e - a ≡ 0 = omega arith in rw z
-
-  pub part-out : length s ≤ a → take (e - a) (drop a s) ≡ []
-  part-out h = rw (suffix-out s a h) (take-nil (e - a))
-
-  pub part-rest : length s ≤ e → take (e - a) (drop a s) ≡ take (length s - a) (drop a s)
-  part-rest h = take_all (e - a) (drop a s) (rw length-drop (omega arith)) ∙ sym (take_all (length s - a) (drop a s) (rw length-drop (omega arith)))
-
--- they are the front that ends at the second, from the first on
+-- the bytes between two indices are the front that ends at the second, from the first on
 pub drop-take : (i n : ℕ) (s : List ℕ) → drop i (take n s) ≡ take (n - i) (drop i s)
 drop-take zero n s = let z : n - 0 ≡ n = omega arith in rw z refl
 drop-take (suc i) zero s = let z : zero - suc i ≡ 0 = omega arith in rw z refl

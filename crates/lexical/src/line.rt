@@ -41,20 +41,7 @@ pub fn next_line(bytes: &[u8], index: usize) -> usize
 pub fn ends_line(bytes: &[u8], index: usize) -> bool
     ensures { result ≡ endsLine (drop index bytes.now) }
 {
-    if index >= bytes.len() {
-        return false;
-    }
-    let byte = bytes[index];
-    if byte == b'\n' {
-        return true;
-    }
-    if byte == b'\r' {
-        if peek(bytes, index + 1) == 10 {
-            return false;
-        }
-        return true;
-    }
-    false
+    line_ending(bytes, index) == 1
 }
 
 // The number of lines.

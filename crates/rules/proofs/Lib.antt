@@ -11,5 +11,8 @@ pub mod Refusals
 pub mod Outputs
 pub mod Cut
 pub mod LineLaws
+pub mod Fields
+pub mod Records
+pub mod Events
 pub mod BlockLaws
 pub mod Witness

@@ -101,9 +101,12 @@ cut-sizes (x ∷ xs) = (
 )
 
 -- the lines of a text have its bytes
+pub cut-size : (text : List ℕ) → sizes (cutLines false [] text) ≡ length text
+cut-size text = (cut-sizes text).0 [] ∙ omega arith
+
 pub lines-size : (flags text : List ℕ) → sizes (linesOf flags text) ≡ length text
 unfolding linesOf
-lines-size flags text = flagged-size flags (cutLines false [] text) ∙ (cut-sizes text).0 [] ∙ omega arith
+lines-size flags text = flagged-size flags (cutLines false [] text) ∙ cut-size text
 
 -- ---- where the content of the last of n lines ends, the line before them ending at stop
 unfoldable pub stopFrom : ℕ → ℕ → List Line → ℕ

@@ -1,9 +1,10 @@
 -- The premises of demand 3 are needed: for each byte that is not private, two bulletins that differ in it and do not show alike; and lines and a body that run
--- one does not withhold. Each table is proved by one computed fact.
+-- one does not withhold. So is it that a record's numbers fit their fields. Each table is proved by one computed fact.
 use Rattle.std.specs.Prelude.{ℕ, suc, ◌≡◌, refl, Bool, true, ◌&&◌, ◌||◌, not, List, [], ◌∷◌, ◌++◌, eqb, length}
 use Rattle.lexical.specs.Text.{byte, bytes}
 use Rattle.lexical.specs.Name.{all, sameBytes}
 use Rattle.rules.specs.Reading.{crate, standard}
+use Rattle.rules.specs.Trace.{eventRecord, lastRecord, recordBytes, recordAt}
 use Rattle.rules.specs.Withhold.{pieces, holds, shown, count}
 use Rattle.rules.specs.Private.{isPrivate, any, Form, comment, declaration, cdata}
 use Rattle.rules.specs.Computing.{computing}
@@ -99,3 +100,12 @@ counted = body 0 (bytes "a <?") declared (bytes "x") (bytes "?") (bytes "<?b?>")
 pub count-tells : (sameShown crate counted && not (sameCount crate counted)) ≡ true
 unfolding computing
 count-tells = refl
+
+-- ---- demand 2: in fields of two bytes a stop of 65,536, and an index, is read as another number
+pub stop-cut : recordAt 2 (recordBytes 2 (lastRecord 13 65536 0)) ≡ lastRecord 13 0 0
+unfolding computing
+stop-cut = refl
+
+pub index-cut : recordAt 2 (recordBytes 2 (eventRecord 9 1 1 65537 0)) ≡ eventRecord 9 1 1 1 0
+unfolding computing
+index-cut = refl

@@ -9,6 +9,7 @@ pub mod Scan
 pub mod Carried
 pub mod Closers
 pub mod Trace
+pub mod ReadBack
 pub mod Withhold
 pub mod Output
 pub mod Filter

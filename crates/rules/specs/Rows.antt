@@ -1,20 +1,13 @@
 -- The rows that 01 marks (P), each a test, proved together by one computed fact.
 use Rattle.std.specs.Prelude.{ℕ, ◌≡◌, refl, Bool, true, false, ◌&&◌, not, List, [], ◌∷◌, ◌++◌, eqb}
-use Rattle.lexical.specs.Text.{bytes, run, limit}
-use Rattle.lexical.specs.Line.{lineEnding, endsLine, lineEndings, lines, isBlank, isLineStart}
-use Rattle.lexical.specs.Name.{all, sameBytes, isMember, blockNames, rawNames, isBlockName, isRawName, placeFrom, blockPlace, rawPlace, cdataPrefix}
-use Rattle.lexical.specs.Point.{tabReadings, passed, movedBy, pointAt}
+use Rattle.lexical.specs.Text.{bytes}
+use Rattle.lexical.specs.Name.{all, sameBytes, isBlockName}
+use Rattle.lexical.specs.Point.{tabReadings}
 use Rattle.rules.specs.Reading.{crate}
-use Rattle.rules.specs.Search.{somewhere, before, past, throughFirst}
-use Rattle.rules.specs.Tag.{tagEnd, values, attributes, openTag, closingTag}
-use Rattle.rules.specs.Inline.{comment, instruction, declaration, htmlTag, prefix, rawHtml, readInline}
-use Rattle.rules.specs.Lines.{cutLines, flagged, linesOf}
-use Rattle.rules.specs.Block as Block
-use Rattle.rules.specs.Block.{startsRaw, startsBasic, startsComplete, kindAt, kindOf, placeOf, beforeEven, beforeCloser, closes, extentOf, inLast}
-use Rattle.rules.specs.Refusal.{refusal, blankFollows, inlineRefusal, blockRefusal, bulletinRefusal}
-use Rattle.rules.specs.Scan.{InlineAnswer, foundInline, noInline, refusedInline, inlineAt, inlineScan, found, BlockAnswer, foundBlock, noBlock, refusedBlock, blockOf, linesAt, blockAt, blockScan}
-use Rattle.rules.specs.Trace.{field, pointBytes, eventBytes, lastBytes, textLines, textEvents, inlineTrace}
-use Rattle.rules.specs.Withhold.{marks, goesOn, inlinePieces, linePieces, pieces, isWithheld, outside, shown, count}
+use Rattle.rules.specs.Scan.{InlineAnswer, foundInline, noInline, refusedInline, inlineScan, found, BlockAnswer, foundBlock, noBlock, refusedBlock, blockScan}
+use Rattle.rules.specs.Trace.{inlineTrace}
+use Rattle.rules.specs.Withhold.{shown, count}
+use Rattle.rules.specs.Computing.{computing}
 
 -- two answers are the same
 abbrev pub sameInline : InlineAnswer → InlineAnswer → Bool
@@ -106,5 +99,5 @@ slips =
     []
 
 pub rows-hold : all (λ b. b) (rows ++ slips) ≡ true
-unfolding rows slips run limit lineEnding endsLine lineEndings lines isBlank isLineStart all sameBytes isMember blockNames rawNames isBlockName isRawName placeFrom blockPlace rawPlace cdataPrefix tabReadings passed movedBy pointAt somewhere before past throughFirst tagEnd values attributes openTag closingTag comment instruction declaration htmlTag prefix rawHtml readInline cutLines flagged linesOf startsRaw startsBasic startsComplete kindAt kindOf placeOf beforeEven beforeCloser closes Block.goesOn extentOf inLast refusal blankFollows inlineRefusal blockRefusal bulletinRefusal inlineAt inlineScan blockOf linesAt blockAt blockScan field pointBytes eventBytes lastBytes textLines textEvents inlineTrace marks goesOn inlinePieces linePieces pieces isWithheld outside shown count
+unfolding computing rows slips
 rows-hold = refl

@@ -1,6 +1,7 @@
 -- Traces of both scans and the reading of a trace, 01, Traces. The events of a scan are a function of the text, the start and the answer: the bytes taken are
--- cut into lines, and the point of an event is that of its index.
-use Rattle.std.specs.Prelude.{ℕ, zero, suc, ◌+◌, ◌-◌, ◌*◌, ◌/◌, ◌%◌, Bool, false, ◌&&◌, ◌||◌, not, List, [], ◌∷◌, ◌++◌, eqb, leb, ltb, length, take, drop, get_or}
+-- cut into lines, and the point of an event is that of its index. A trace is the bytes of the events' records and of a last one, each number in it a field of so
+-- many bytes.
+use Rattle.std.specs.Prelude.{ℕ, zero, suc, ◌+◌, ◌-◌, ◌*◌, ◌/◌, ◌%◌, Bool, false, ◌&&◌, ◌||◌, not, List, [], ◌∷◌, ◌++◌, map, eqb, leb, ltb, length, take, drop, get_or}
 use Rattle.lexical.specs.Text.{first, run}
 use Rattle.lexical.specs.Byte.{isSpaceOrTab}
 use Rattle.lexical.specs.Line.{lineEnding}
@@ -11,16 +12,7 @@ use Rattle.rules.specs.Lines.{Line, cutLines}
 use Rattle.rules.specs.Block.{indentation}
 use Rattle.rules.specs.Scan.{InlineAnswer, foundInline, noInline, refusedInline, BlockAnswer, foundBlock, noBlock, refusedBlock}
 
--- ---- bytes
--- line, column, index and stop have four bytes each, low first: 02, Ask 7
-abbrev pub wide : ℕ
-wide = 4
-
--- a number in w bytes, low first
-unfoldable pub field : ℕ → ℕ → List ℕ
-field zero n = []
-field (suc w) n = n % 256 ∷ field w (n / 256)
-
+-- ---- events
 -- an event: its kind and its index; an enter is odd, its exit one more
 pub record Event : Type 0 where
   pub kind : ℕ
@@ -29,18 +21,6 @@ pub record Event : Type 0 where
 abbrev pub event : ℕ → ℕ → Event
 event k i = record { kind = k; index = i }
 
-unfoldable pub pointBytes : ℕ → Point → List ℕ
-pointBytes w p = field w p.line ++ (field w p.column ++ (field w p.index ++ (p.vs ∷ [])))
-
-unfoldable pub eventBytes : ℕ → List ℕ → List Event → List ℕ
-eventBytes w text [] = []
-eventBytes w text (e ∷ es) = e.kind ∷ (pointBytes w (pointAt text e.index) ++ eventBytes w text es)
-
--- the last record: 13 with the carry, 14 with the block kind
-unfoldable pub lastBytes : ℕ → ℕ → ℕ → ℕ → List ℕ
-lastBytes w kind stop n = kind ∷ (field w stop ++ (n ∷ []))
-
--- ---- events
 -- the kinds of the enters
 abbrev pub htmlFlow : ℕ
 htmlFlow = 1
@@ -116,31 +96,64 @@ unfoldable pub flowExit : List ℕ → ℕ → ℕ → ℕ → Bool → ℕ
 flowExit text start kind stop closed =
     choose (leb kind 5 && (not closed && endsEmpty (taken text start stop))) (λ _. stop + lineEnding (drop stop text)) (λ _. stop)
 
--- ---- traces
--- a scan that finds nothing writes only its last record, with the index passed in as stop
-unfoldable pub inlineTrace : List ℕ → ℕ → InlineAnswer → List ℕ
-inlineTrace text start (foundInline stop carry) =
-    eventBytes wide text (textEvents start stop (taken text start stop)) ++ lastBytes wide 13 stop carry
-inlineTrace text start (noInline carry) = lastBytes wide 13 start carry
-inlineTrace text start (refusedInline n carry) = []
-
--- of a block, by its kind, its stop and whether a closer was met
-unfoldable pub flowTrace : List ℕ → ℕ → ℕ → ℕ → Bool → List ℕ
-flowTrace text start kind stop closed =
-    eventBytes wide text (flowEvents start (flowExit text start kind stop closed) (taken text start stop)) ++ lastBytes wide 14 stop kind
-
-unfoldable pub blockTrace : List ℕ → ℕ → BlockAnswer → List ℕ
-blockTrace text start (foundBlock b) = flowTrace text start b.kind b.stop b.closed
-blockTrace text start noBlock = lastBytes wide 14 start 0
-blockTrace text start (refusedBlock n) = []
-
--- ---- reading
+-- ---- records
 -- a record: kind, line, column, index and vs; a last one: kind, stop, and carry or block kind; or a refusal
 pub data Record : Type 0 where
   eventRecord : ℕ → ℕ → ℕ → ℕ → ℕ → Record
   lastRecord : ℕ → ℕ → ℕ → Record
   refusedRecord : ℕ → Record
 
+-- of an event, by the point of its index
+abbrev pub atPoint : ℕ → Point → Record
+atPoint kind p = eventRecord kind p.line p.column p.index p.vs
+
+abbrev pub eventRecords : List ℕ → List Event → List Record
+eventRecords text es = map (λ e. atPoint e.kind (pointAt text e.index)) es
+
+-- of a scan: its events, then 13 with stop and carry; one that finds nothing has only the last, with the index passed in as stop, and one refused has none
+unfoldable pub inlineRecords : List ℕ → ℕ → InlineAnswer → List Record
+inlineRecords text start (foundInline stop carry) = eventRecords text (textEvents start stop (taken text start stop)) ++ (lastRecord 13 stop carry ∷ [])
+inlineRecords text start (noInline carry) = lastRecord 13 start carry ∷ []
+inlineRecords text start (refusedInline n carry) = []
+
+-- of a block, by its kind, its stop and whether a closer was met: its events, then 14 with stop and kind
+unfoldable pub flowRecords : List ℕ → ℕ → ℕ → ℕ → Bool → List Record
+flowRecords text start kind stop closed =
+    eventRecords text (flowEvents start (flowExit text start kind stop closed) (taken text start stop)) ++ (lastRecord 14 stop kind ∷ [])
+
+unfoldable pub blockRecords : List ℕ → ℕ → BlockAnswer → List Record
+blockRecords text start (foundBlock b) = flowRecords text start b.kind b.stop b.closed
+blockRecords text start noBlock = lastRecord 14 start 0 ∷ []
+blockRecords text start (refusedBlock n) = []
+
+-- ---- bytes
+-- line, column, index and stop have four bytes each, low first: 02, Ask 7
+abbrev pub wide : ℕ
+wide = 4
+
+-- a number in w bytes, low first
+unfoldable pub field : ℕ → ℕ → List ℕ
+field zero n = []
+field (suc w) n = n % 256 ∷ field w (n / 256)
+
+-- a record, with fields of w bytes
+unfoldable pub recordBytes : ℕ → Record → List ℕ
+recordBytes w (eventRecord kind line column index vs) = kind ∷ (field w line ++ (field w column ++ (field w index ++ (vs ∷ []))))
+recordBytes w (lastRecord kind stop n) = kind ∷ (field w stop ++ (n ∷ []))
+recordBytes w (refusedRecord n) = []
+
+unfoldable pub traceBytes : ℕ → List Record → List ℕ
+traceBytes w [] = []
+traceBytes w (r ∷ rs) = recordBytes w r ++ traceBytes w rs
+
+-- ---- traces
+abbrev pub inlineTrace : List ℕ → ℕ → InlineAnswer → List ℕ
+inlineTrace text start a = traceBytes wide (inlineRecords text start a)
+
+abbrev pub blockTrace : List ℕ → ℕ → BlockAnswer → List ℕ
+blockTrace text start a = traceBytes wide (blockRecords text start a)
+
+-- ---- reading
 -- the number of w bytes, low first
 unfoldable pub number : ℕ → List ℕ → ℕ
 number zero s = 0

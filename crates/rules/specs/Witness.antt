@@ -1,6 +1,7 @@
--- Demands 2 and 3 are not empty: readings that leave one change out, places where each change applies and where none does, and private pieces that exist.
+-- Demands 2 and 3 are not empty: readings that leave one change out, places where each change applies and where none does, traces that read back, and private
+-- pieces that exist.
 -- Each table is proved by one computed fact.
-use Rattle.std.specs.Prelude.{ℕ, zero, suc, ◌+◌, ◌≡◌, refl, Bool, true, false, ◌&&◌, ◌||◌, not, List, [], ◌∷◌, ◌++◌, eqb, length, replicate}
+use Rattle.std.specs.Prelude.{ℕ, zero, suc, ◌+◌, ◌≡◌, refl, Bool, true, false, ◌&&◌, ◌||◌, not, List, [], ◌∷◌, ◌++◌, map, eqb, length, replicate}
 use Rattle.std.proofs.Common.{sym}
 use Rattle.lexical.specs.Text.{byte, bytes, pick}
 use Rattle.lexical.specs.Line.{lines}
@@ -10,6 +11,7 @@ use Rattle.rules.specs.Refusal.{bulletinRefusal}
 use Rattle.rules.specs.Scan.{inlineScan, blockScan}
 use Rattle.rules.specs.Changes.{Spares, Unchanged}
 use Rattle.rules.specs.Partings.{isFoundInline, inlineListed, foundKind, blockListed}
+use Rattle.rules.specs.Trace.{wide, Record, eventRecord, lastRecord, refusedRecord, inlineTrace, blockTrace, readTrace}
 use Rattle.rules.specs.Withhold.{Which, inline, block, Piece, pieces, shown}
 use Rattle.rules.specs.Private.{isPrivate, any, Form, comment, instruction, declaration, cdata, around, spans, linesText, encloses, Swap, in-line, in-block, TwoRuns}
 use Rattle.rules.specs.Rows.{sameBit, sameInline, sameBlock}
@@ -164,6 +166,23 @@ spares-tag = eight (Spares (λ ρ. inlineScan ρ (bytes "<b>") 0 0)) refl refl r
 -- what demand 2 says is not so of every answer: two changes can stand in for each other, so that neither applies
 pub not-of-all : Unchanged (λ ρ. ρ.f1 || ρ.f2) → true ≡ false
 not-of-all same = same (eight (Spares (λ ρ. ρ.f1 || ρ.f2)) refl refl refl refl refl refl refl refl)
+
+-- ---- demand 2: traces
+-- what a trace says, read by the first numbers
+abbrev pub readBy : List ℕ → List ℕ → List Record
+readBy numbers trace = map (λ n. readTrace wide n trace) numbers
+
+-- 01's trace of `<b>`, and one of a block whose spaces have a pair of their own; behind the last record there is none
+pub tag-read : readBy (0 ∷ 1 ∷ 2 ∷ 3 ∷ 4 ∷ 5 ∷ []) (inlineTrace (bytes "<b>") 0 (inlineScan crate (bytes "<b>") 0 0))
+    ≡ eventRecord 7 1 1 0 0 ∷ eventRecord 9 1 1 0 0 ∷ eventRecord 10 1 4 3 0 ∷ eventRecord 8 1 4 3 0 ∷ lastRecord 13 3 0 ∷ refusedRecord 9 ∷ []
+unfolding computing
+tag-read = refl
+
+pub block-read : readBy (0 ∷ 2 ∷ 3 ∷ 5 ∷ 6 ∷ 7 ∷ 9 ∷ 10 ∷ 11 ∷ []) (blockTrace (bytes " <?\n\t?>") 0 (blockScan crate (bytes " <?\n\t?>") (0 ∷ 0 ∷ []) 0))
+    ≡ eventRecord 1 1 1 0 0 ∷ eventRecord 4 1 2 1 0 ∷ eventRecord 3 1 2 1 0 ∷ eventRecord 5 1 4 3 0 ∷ eventRecord 6 2 1 4 0 ∷ eventRecord 3 2 1 4 0
+    ∷ eventRecord 2 2 7 7 0 ∷ lastRecord 14 7 3 ∷ refusedRecord 9 ∷ []
+unfolding computing
+block-read = refl
 
 -- ---- demand 3: private pieces
 -- how many bytes below n are private

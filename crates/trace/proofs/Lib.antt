@@ -9,3 +9,4 @@ pub mod Pieces
 pub mod Stops
 pub mod Empty
 pub mod BlockStops
+pub mod ReadBack

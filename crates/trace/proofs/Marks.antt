@@ -1,6 +1,6 @@
 -- Laws of marking events: the point of an event is that of its index, and events behind events are the events of both.
 use mathlib.Core.Path.{◌≡◌, refl, sym, ◌∙◌, ap, subst}
-use mathlib.Core.List.{List, [], ◌∷◌, ◌++◌, append-nil, append_assoc}
+use mathlib.Core.List.{List, [], ◌∷◌, ◌++◌}
 use Prim.Native.Nat.{ℕ, ◌+◌, ◌*◌, ◌-◌, ◌<◌, ◌≤◌}
 use native.Mathlib.Omega.{arith}
 use native.Mathlib.Numerals.{add-one}
@@ -10,34 +10,34 @@ use Rattle.lexical.specs.Point.{movedBy, pointAt}
 use Rattle.lexical.specs.declared.event.Point.{Point}
 use Rattle.lexical.proofs.Moves.{point-on}
 use Rattle.lexical.proofs.Bounds.{Fit, point-fits}
-use Rattle.rules.specs.Trace.{Event, event, pair, wide, pointBytes, eventBytes}
+use Rattle.rules.specs.Trace.{wide, Event, event, pair, lastRecord, atPoint, eventRecords, recordBytes, traceBytes}
 use Rattle.lexical.specs.Buffer.{Written}
-use Rattle.trace.specs.Writing.{eventLength}
+use Rattle.trace.specs.Writing.{eventLength, eventBytes, endedBytes}
 use Rattle.trace.specs.Walk.{Ready, Marked}
 use Rattle.trace.specs.declared.events.Pen.{Pen}
 use Rattle.lexical.proofs.Stores.{then, nothing-written}
-use Rattle.trace.proofs.Stores.{point-length}
+use Rattle.rules.proofs.Records.{records-append, bytes-append, event-bytes, one-record}
 
 -- ---- bytes of events
-pub events-length : (text : List ℕ) (es : List Event) → length (eventBytes wide text es) ≡ eventLength * length es
-unfolding eventBytes
+pub events-length : (text : List ℕ) (es : List Event) → length (eventBytes text es) ≡ eventLength * length es
+unfolding traceBytes
 events-length text [] = refl
 events-length text (e ∷ es) =
-    let p = point-length wide (pointAt text e.index) in
+    let p = pointAt text e.index in
     let l = events-length text es in
-    omega (arith, length-append (pointBytes wide (pointAt text e.index)) (eventBytes wide text es))
+    omega (arith, length-append (recordBytes wide (atPoint e.kind p)) (eventBytes text es), event-bytes wide e.kind p.line p.column p.index p.vs)
 
--- with fields of w bytes
-module _ (w : ℕ) (text : List ℕ) where
-  pub events-append : (a b : List Event) → eventBytes w text (a ++ b) ≡ eventBytes w text a ++ eventBytes w text b
-  unfolding eventBytes
-  events-append [] b = refl
-  events-append (e ∷ a) b =
-      ap (λ l. e.kind ∷ l) (ap (λ l. pointBytes w (pointAt text e.index) ++ l) (events-append a b) ∙ sym (append_assoc (pointBytes w (pointAt text e.index)) (eventBytes w text a) (eventBytes w text b)))
+module _ (text : List ℕ) where
+  pub events-append : (a b : List Event) → eventBytes text (a ++ b) ≡ eventBytes text a ++ eventBytes text b
+  events-append a b = ap (traceBytes wide) (records-append text a b) ∙ bytes-append wide (eventRecords text a) (eventRecords text b)
 
-  one-event : (kind index : ℕ) → eventBytes w text (event kind index ∷ []) ≡ kind ∷ pointBytes w (pointAt text index)
-  unfolding eventBytes
-  one-event kind index = ap (λ l. kind ∷ l) (append-nil (pointBytes w (pointAt text index)))
+  one-event : (kind index : ℕ) → eventBytes text (event kind index ∷ []) ≡ recordBytes wide (atPoint kind (pointAt text index))
+  one-event kind index = one-record wide (atPoint kind (pointAt text index))
+
+  -- with a last record behind them
+  pub ended : (es : List Event) (kind stop n : ℕ) → endedBytes text es kind stop n ≡ eventBytes text es ++ recordBytes wide (lastRecord kind stop n)
+  ended es kind stop n =
+      bytes-append wide (eventRecords text es) (lastRecord kind stop n ∷ []) ∙ ap (λ s. eventBytes text es ++ s) (one-record wide (lastRecord kind stop n))
 
 -- ---- points
 standing : (text : List ℕ) (index : ℕ) → length text ≤ limit → index ≤ length text → Fit index (pointAt text index)
@@ -59,9 +59,9 @@ module _ {text : List ℕ} {pen : Pen} {index : ℕ} (ready : Ready text pen ind
 
 -- an event is marked
 pub marked-one : {text old new : List ℕ} {pen : Pen} {kind index : ℕ} (p : Point) → Ready text pen index → p ≡ pointAt text index
-    → Written old pen.at (kind ∷ pointBytes wide p) new → Marked text pen (event kind index ∷ []) old new (record { point = p; at = pen.at + eventLength })
+    → Written old pen.at (recordBytes wide (atPoint kind p)) new → Marked text pen (event kind index ∷ []) old new (record { point = p; at = pen.at + eventLength })
 marked-one {text} {old} {new} {pen} {kind} {index} p ready e w = record {
-  bytes = subst (λ b. Written old pen.at b new) (ap (λ q. kind ∷ pointBytes wide q) e ∙ sym (one-event wide text kind index)) w;
+  bytes = subst (λ b. Written old pen.at b new) (ap (λ q. recordBytes wide (atPoint kind q)) e ∙ sym (one-event text kind index)) w;
   at-is = refl;
   stands = e ∙ ap (pointAt text) (sym (index-is ready p e));
 }
@@ -69,7 +69,7 @@ marked-one {text} {old} {new} {pen} {kind} {index} p ready e w = record {
 -- ---- one marking behind the other
 pub and-then : {text old mid new : List ℕ} {pen pen' r : Pen} {a b : List Event} → Marked text pen a old mid pen' → Marked text pen' b mid new r → Marked text pen (a ++ b) old new r
 and-then {text} {old} {mid} {new} {pen} {pen'} {r} {a} {b} v w = record {
-  bytes = subst (λ l. Written old pen.at l new) (sym (events-append wide text a b)) (then (v.at-is ∙ ap (λ n. pen.at + n) (sym (events-length text a))) v.bytes w.bytes);
+  bytes = subst (λ l. Written old pen.at l new) (sym (events-append text a b)) (then (v.at-is ∙ ap (λ n. pen.at + n) (sym (events-length text a))) v.bytes w.bytes);
   at-is = omega (arith, v.at-is, w.at-is, length-append a b);
   stands = w.stands;
 }
@@ -80,7 +80,7 @@ renamed {text} {old} {new} {pen} {r} {a} b e m = subst (λ es. Marked text pen e
 
 -- nothing is marked
 pub marked-none : {text old : List ℕ} {pen : Pen} → pen.point ≡ pointAt text pen.point.index → Marked text pen [] old old pen
-unfolding eventBytes
+unfolding traceBytes
 marked-none e = record { bytes = nothing-written; at-is = omega arith; stands = e }
 
 -- an exit is one more than its enter
@@ -92,6 +92,8 @@ marked-pair {text} {old} {mid} {new} {pen} {pen'} {r} kind from to v w = and-the
 pub ready-on : {text old new : List ℕ} {pen r : Pen} {es : List Event} {j : ℕ} → Marked text pen es old new r → length text ≤ limit → r.point.index ≤ j → j ≤ length text → Ready text r j
 ready-on m s f w = record { small = s; stands = m.stands; forward = f; within = w }
 
--- bytes behind the events
-pub and-last : {text old mid new bs : List ℕ} {pen r : Pen} {es : List Event} → Marked text pen es old mid r → Written mid r.at bs new → Written old pen.at (eventBytes wide text es ++ bs) new
-and-last {text} {old} {mid} {new} {bs} {pen} {r} {es} m w = then (m.at-is ∙ ap (λ n. pen.at + n) (sym (events-length text es))) m.bytes w
+-- a last record behind the events
+pub and-last : {text old mid new : List ℕ} {pen r : Pen} {es : List Event} (kind stop n : ℕ) → Marked text pen es old mid r
+    → Written mid r.at (recordBytes wide (lastRecord kind stop n)) new → Written old pen.at (endedBytes text es kind stop n) new
+and-last {text} {old} {mid} {new} {pen} {r} {es} kind stop n m w =
+    subst (λ b. Written old pen.at b new) (sym (ended text es kind stop n)) (then (m.at-is ∙ ap (λ k. pen.at + k) (sym (events-length text es))) m.bytes w)

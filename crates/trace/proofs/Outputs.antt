@@ -1,13 +1,13 @@
 -- Laws of an entry that traces, by the answer of its scan: the refusal of the scan, or what is made of its trace.
-use mathlib.Core.Path.{◌≡◌, ◌∙◌}
-use mathlib.Core.List.{List, ◌++◌}
+use mathlib.Core.Path.{◌≡◌, ◌∙◌, ap}
+use mathlib.Core.List.{List}
 use Prim.Native.Nat.{ℕ, ◌+◌, ◌*◌, ◌≤◌}
 use native.Mathlib.Omega.{arith}
 use lib.ListN.{length, length-append}
 use Rattle.rules.specs.Reading.{crate as ofCrate}
 use Rattle.rules.specs.Scan.{InlineAnswer, foundInline, noInline, refusedInline, inlineScan, Found, BlockAnswer, foundBlock, noBlock, refusedBlock, blockScan}
 use Rattle.rules.specs.Refusal.{inlineRefusal, blockRefusal, outputRefusal}
-use Rattle.rules.specs.Trace.{Event, eventBytes, lastBytes, wide, inlineTrace, flowTrace, blockTrace}
+use Rattle.rules.specs.Trace.{wide, Event, lastRecord, inlineRecords, blockRecords, recordBytes, inlineTrace, blockTrace}
 use Rattle.rules.specs.Withhold.{written}
 use Rattle.rules.specs.Output.{outputOf, Writes}
 use Rattle.rules.specs.declared.Output.{Output}
@@ -15,14 +15,15 @@ use Rattle.rules.specs.declared.Output.TheVariants.{Written as WrittenBytes, Ref
 use Rattle.rules.proofs.Outputs.{read-refused, all-written, fits}
 use Rattle.trace.specs.Answer.{inlineTraceRefusal, inlineTraced, inlineBuffer, blockTraceRefusal, blockTraced, blockBuffer}
 use Rattle.lexical.specs.Buffer.{Written}
-use Rattle.trace.specs.Writing.{eventLength, lastLength}
+use Rattle.trace.specs.Writing.{eventLength, lastLength, eventBytes, endedBytes, flowTrace}
 use Rattle.lexical.proofs.Stores.{from-front}
-use Rattle.trace.proofs.Stores.{last-length}
-use Rattle.trace.proofs.Marks.{events-length}
+use Rattle.rules.proofs.Records.{last-bytes, one-record}
+use Rattle.trace.proofs.Marks.{events-length, ended}
 
 -- ---- lengths
-pub trace-length : (text : List ℕ) (es : List Event) (kind stop n : ℕ) → length (eventBytes wide text es ++ lastBytes wide kind stop n) ≡ eventLength * length es + lastLength
-trace-length text es kind stop n = omega (arith, length-append (eventBytes wide text es) (lastBytes wide kind stop n), events-length text es, last-length wide kind stop n)
+pub trace-length : (text : List ℕ) (es : List Event) (kind stop n : ℕ) → length (endedBytes text es kind stop n) ≡ eventLength * length es + lastLength
+trace-length text es kind stop n =
+    omega (arith, ap length (ended text es kind stop n), length-append (eventBytes text es) (recordBytes wide (lastRecord kind stop n)), events-length text es, last-bytes wide kind stop n)
 
 -- ---- a trace that is written
 pub is-traced : (trace old : List ℕ) {new : List ℕ} (n : ℕ) → n ≡ length trace → n ≤ length old → Written old 0 trace new → Writes (outputRefusal 0 (length old) trace) trace old (WrittenBytes n) new
@@ -50,9 +51,9 @@ module _ (text : List ℕ) (i k : ℕ) (old : List ℕ) where
   found-by stop c e f t = answers (inline-by 0 (foundInline stop c) e f t)
 
   pub none-by : {r : Output} {new : List ℕ} (c : ℕ) → inlineScan ofCrate text i k ≡ noInline c → inlineRefusal text i k ≡ 0
-      → Writes (outputRefusal 0 (length old) (lastBytes wide 13 i c)) (lastBytes wide 13 i c) old r new → Is r new
-  unfolding inlineTrace
-  none-by c e f t = answers (inline-by 0 (noInline c) e f t)
+      → Writes (outputRefusal 0 (length old) (recordBytes wide (lastRecord 13 i c))) (recordBytes wide (lastRecord 13 i c)) old r new → Is r new
+  unfolding inlineRecords
+  none-by c e f t = answers (inline-by 0 (noInline c) e f (rw (one-record wide (lastRecord 13 i c)) t))
 
   pub refused-by : (n c : ℕ) → inlineScan ofCrate text i k ≡ refusedInline n c → inlineRefusal text i k ≡ n → (n ≡ 0 → ⊥) → Is (Refused n) old
   refused-by n c e f h = answers (inline-by n (refusedInline n c) e f (read-refused (inlineTrace text i (refusedInline n c)) old n h))
@@ -69,13 +70,13 @@ module _ (text flags : List ℕ) (i : ℕ) (old : List ℕ) where
 
   pub block-found-by : {r : Output} {new : List ℕ} (b : Found) (kind : ℕ) → kind ≡ b.kind → blockScan ofCrate text flags i ≡ foundBlock b → blockRefusal text flags i ≡ 0
       → Writes (outputRefusal 0 (length old) (flowTrace text i kind b.stop b.closed)) (flowTrace text i kind b.stop b.closed) old r new → IsBlock r new
-  unfolding blockTrace
+  unfolding blockRecords
   block-found-by b kind k e f t = block-by 0 (foundBlock b) e f (rw k at t)
 
   pub block-none-by : {r : Output} {new : List ℕ} → blockScan ofCrate text flags i ≡ noBlock → blockRefusal text flags i ≡ 0
-      → Writes (outputRefusal 0 (length old) (lastBytes wide 14 i 0)) (lastBytes wide 14 i 0) old r new → IsBlock r new
-  unfolding blockTrace
-  block-none-by e f t = block-by 0 noBlock e f t
+      → Writes (outputRefusal 0 (length old) (recordBytes wide (lastRecord 14 i 0))) (recordBytes wide (lastRecord 14 i 0)) old r new → IsBlock r new
+  unfolding blockRecords
+  block-none-by e f t = block-by 0 noBlock e f (rw (one-record wide (lastRecord 14 i 0)) t)
 
   pub block-refused-by : (n : ℕ) → blockScan ofCrate text flags i ≡ refusedBlock n → blockRefusal text flags i ≡ n → (n ≡ 0 → ⊥) → IsBlock (Refused n) old
   block-refused-by n e f h = block-by n (refusedBlock n) e f (read-refused (blockTrace text i (refusedBlock n)) old n h)

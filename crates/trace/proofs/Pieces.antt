@@ -16,10 +16,10 @@ use Rattle.lexical.proofs.Moves.{point-start}
 use Rattle.lexical.proofs.Run.{run-length}
 use Rattle.lexical.proofs.Suffix.{drop-take}
 use Rattle.rules.specs.Lines.{cutLines}
-use Rattle.rules.specs.Trace.{wide, Event, event, pair, pairOf, htmlText, htmlTextData, htmlFlow, htmlFlowData, textEvents, flowEvents, taken, eventBytes, flowExit, lastBytes, inlineTrace, flowTrace}
+use Rattle.rules.specs.Trace.{Event, event, pair, pairOf, htmlText, htmlTextData, htmlFlow, htmlFlowData, textEvents, flowEvents, taken, flowExit, inlineRecords, flowRecords, inlineTrace}
 use Rattle.rules.specs.Scan.{foundInline}
 use Rattle.rules.proofs.Cut.{cut-first, content-length, run-content, run-within, space-apart}
-use Rattle.trace.specs.Writing.{eventLength, lastLength}
+use Rattle.trace.specs.Writing.{eventLength, lastLength, endedBytes, flowTrace}
 use Rattle.trace.specs.Walk.{restEvents, firstTo, indentTo, textPiece, flowPiece, penStart, Ready, Marked}
 use Rattle.trace.specs.declared.events.Pen.{Pen}
 use Rattle.trace.proofs.Outputs.{trace-length}
@@ -61,9 +61,9 @@ module _ (text F : List ℕ) (i stop k : ℕ) (h : i ≤ stop) (w : stop ≤ len
   pub front-length : length F ≡ stop
   front-length = ap length front-is ∙ length-take-le stop text w
 
-  pub text-trace : inlineTrace text i (foundInline stop k) ≡ eventBytes wide text (textPiece F i stop) ++ lastBytes wide 13 stop k
-  unfolding inlineTrace
-  text-trace = ap (λ es. eventBytes wide text es ++ lastBytes wide 13 stop k) (text-events text i stop h ∙ ap (λ s. textPiece s i stop) (sym front-is))
+  pub text-trace : inlineTrace text i (foundInline stop k) ≡ endedBytes text (textPiece F i stop) 13 stop k
+  unfolding inlineRecords
+  text-trace = ap (λ es. endedBytes text es 13 stop k) (text-events text i stop h ∙ ap (λ s. textPiece s i stop) (sym front-is))
 
   -- by the length that was counted
   module _ (n : ℕ) (c : n ≡ eventLength * length (textPiece F i (length F)) + lastLength) where
@@ -108,9 +108,9 @@ module _ (text F : List ℕ) (i kind stop : ℕ) (closed : Bool) (h : i ≤ stop
   abbrev exit : ℕ
   exit = flowExit text i kind stop closed
 
-  pub flow-trace : flowTrace text i kind stop closed ≡ eventBytes wide text (flowPiece F i exit) ++ lastBytes wide 14 stop kind
-  unfolding flowTrace
-  flow-trace = ap (λ es. eventBytes wide text es ++ lastBytes wide 14 stop kind) (flow-events text i exit stop h ∙ ap (λ s. flowPiece s i exit) (sym (front-is text F i stop kind h w e)))
+  pub flow-trace : flowTrace text i kind stop closed ≡ endedBytes text (flowPiece F i exit) 14 stop kind
+  unfolding flowRecords
+  flow-trace = ap (λ es. endedBytes text es 14 stop kind) (flow-events text i exit stop h ∙ ap (λ s. flowPiece s i exit) (sym (front-is text F i stop kind h w e)))
 
   module _ (n : ℕ) (c : n ≡ eventLength * length (flowPiece F i 0) + lastLength) where
     pub flow-size : n ≡ eventLength * length (flowPiece F i exit) + lastLength

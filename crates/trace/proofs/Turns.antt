@@ -7,10 +7,10 @@ use native.Mathlib.Omega.{arith}
 use lib.ListN.{length, drop, length-append}
 use Rattle.lexical.specs.Line.{lineEnding}
 use Rattle.lexical.specs.Point.{pointAt}
-use Rattle.rules.specs.Trace.{wide, Event, eventBytes}
+use Rattle.rules.specs.Trace.{Event, traceBytes}
 use Rattle.rules.proofs.Cut.{lineTo, to-within}
 use Rattle.lexical.specs.Buffer.{stored}
-use Rattle.trace.specs.Writing.{eventLength}
+use Rattle.trace.specs.Writing.{eventLength, eventBytes}
 use Rattle.trace.specs.Walk.{lineEvents, restEvents, Marked}
 use Rattle.trace.specs.declared.events.Pen.{Pen}
 use Rattle.lexical.proofs.Stores.{stores, same}
@@ -19,7 +19,7 @@ use Rattle.trace.proofs.Walks.{rest-one, rest-none}
 
 pub record Left (text front : List ℕ) (flow : Bool) (start : Pen) (old : List ℕ) (pen : Pen) (now : List ℕ) : Type 0 where
   pub bytes :
-      stored now pen.at (eventBytes wide text (restEvents flow front pen.point.index)) ≡ stored old start.at (eventBytes wide text (restEvents flow front start.point.index))
+      stored now pen.at (eventBytes text (restEvents flow front pen.point.index)) ≡ stored old start.at (eventBytes text (restEvents flow front start.point.index))
   pub end : pen.at + eventLength * length (restEvents flow front pen.point.index) ≡ start.at + eventLength * length (restEvents flow front start.point.index)
   pub size : length now ≡ length old
   pub stands : pen.point ≡ pointAt text pen.point.index
@@ -44,13 +44,13 @@ left-on {text} {front} {flow} {start} {pen} {next} {old} {mid} {new} l h m e =
     let a = line front flow pen in
     let b = rest front flow pen in
     let one = rest-one front pen.point.index flow h in
-    let at : next.at ≡ pen.at + length (eventBytes wide text a) = m.at-is ∙ ap (λ n. pen.at + n) (sym (events-length text a)) in
+    let at : next.at ≡ pen.at + length (eventBytes text a) = m.at-is ∙ ap (λ n. pen.at + n) (sym (events-length text a)) in
     record {
       bytes =
-          ap (λ j. stored new next.at (eventBytes wide text (restEvents flow front j))) e
-          ∙ ap (λ o. stored o next.at (eventBytes wide text b)) m.bytes.is
-          ∙ stores mid pen.at next.at (eventBytes wide text a) (eventBytes wide text b) at
-          ∙ ap (λ o. stored mid pen.at o) (sym (events-append wide text a b) ∙ ap (eventBytes wide text) (sym one))
+          ap (λ j. stored new next.at (eventBytes text (restEvents flow front j))) e
+          ∙ ap (λ o. stored o next.at (eventBytes text b)) m.bytes.is
+          ∙ stores mid pen.at next.at (eventBytes text a) (eventBytes text b) at
+          ∙ ap (λ o. stored mid pen.at o) (sym (events-append text a b) ∙ ap (eventBytes text) (sym one))
           ∙ l.bytes;
       end = omega (arith, l.end, m.at-is, ap length one, length-append a b, ap (λ j. length (restEvents flow front j)) e);
       size = same m.bytes ∙ l.size;
@@ -67,11 +67,11 @@ left-room {text} {front} {flow} {start} {pen} {old} {mid} l h r =
 -- no line is left
 pub left-none : {text front : List ℕ} {flow : Bool} {start pen : Pen} {old new : List ℕ} → Left text front flow start old pen new → lineEnding (drop pen.point.index front) ≡ 0
     → Marked text start (restEvents flow front start.point.index) old new pen
-unfolding stored eventBytes
+unfolding stored traceBytes
 left-none {text} {front} {flow} {start} {pen} {old} {new} l e =
     let z = rest-none front pen.point.index flow e in
     record {
-      bytes = record { is = ap (λ es. stored new pen.at (eventBytes wide text es)) (sym z) ∙ l.bytes };
+      bytes = record { is = ap (λ es. stored new pen.at (eventBytes text es)) (sym z) ∙ l.bytes };
       at-is = omega (arith, l.end, ap length z);
       stands = l.stands;
     }

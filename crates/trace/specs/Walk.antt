@@ -6,10 +6,10 @@ use Rattle.lexical.specs.Point.{start, pointAt}
 use Rattle.lexical.specs.Line.{lineLength}
 use Rattle.rules.specs.Search.{choose}
 use Rattle.rules.specs.Block.{indentation}
-use Rattle.rules.specs.Trace.{wide, Event, event, htmlText, htmlFlow, pair, pairOf, lineEndingKind, spaceOrTab, htmlTextData, htmlFlowData, textLines, flowLines, eventBytes}
+use Rattle.rules.specs.Trace.{Event, event, htmlText, htmlFlow, pair, pairOf, lineEndingKind, spaceOrTab, htmlTextData, htmlFlowData, textLines, flowLines}
 use Rattle.rules.proofs.Cut.{behind, lineFrom, lineTo}
 use Rattle.lexical.specs.Buffer.{Written}
-use Rattle.trace.specs.Writing.{eventLength}
+use Rattle.trace.specs.Writing.{eventLength, eventBytes}
 use Rattle.trace.specs.declared.events.Pen.{Pen}
 
 -- of the ending at i of s and the line behind it, inline: the ending, leading spaces or tabs, and the data
@@ -63,6 +63,6 @@ pub record Ready (text : List ℕ) (pen : Pen) (index : ℕ) : Type 0 where
 
 -- the bytes of events are written where the pen was; it stands behind them, at the last one's point
 pub record Marked (text : List ℕ) (pen : Pen) (es : List Event) (old new : List ℕ) (r : Pen) : Type 0 where
-  pub bytes : Written old pen.at (eventBytes wide text es) new
+  pub bytes : Written old pen.at (eventBytes text es) new
   pub at-is : r.at ≡ pen.at + eventLength * length es
   pub stands : r.point ≡ pointAt text r.point.index

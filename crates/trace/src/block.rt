@@ -2,11 +2,11 @@
 ghost use Rattle.std.specs.Prelude.{◌≡◌, ◌++◌, ◌+◌, ◌*◌, ◌≤◌, length};
 ghost use Rattle.lexical.specs.Text.{limit};
 ghost use Rattle.rules.specs.Refusal.{outputRefusal};
-ghost use Rattle.rules.specs.Trace.{wide, taken, endsEmpty, flowExit, eventBytes, lastBytes, flowTrace};
+ghost use Rattle.rules.specs.Trace.{taken, endsEmpty, flowExit};
 ghost use Rattle.rules.specs.Output.{outputOf, Writes};
 ghost use Rattle.trace.specs.Answer.{blockTraced, blockBuffer};
 ghost use Rattle.lexical.specs.Buffer.{Written};
-ghost use Rattle.trace.specs.Writing.{eventLength, lastLength};
+ghost use Rattle.trace.specs.Writing.{eventLength, lastLength, endedBytes, flowTrace};
 ghost use Rattle.trace.specs.Walk.{flowPiece, penStart, Marked};
 
 use crate::events::{HTML_FLOW_DATA, Pen, count_lines, mark, mark_pair, mark_rest, mark_some};
@@ -100,7 +100,7 @@ fn write_flow(
 )
     requires within { (length text.now ≤ limit) × (index ≤ length front.now) × (length front.now ≤ exit) × (exit ≤ length text.now) }
     requires room { eventLength * length (flowPiece front.now index exit) + lastLength ≤ length out.old }
-    ensures { Written out.old 0 (eventBytes wide text.now (flowPiece front.now index exit) ++ lastBytes wide 14 stop kind) out.new }
+    ensures { Written out.old 0 (endedBytes text.now (flowPiece front.now index exit) 14 stop kind) out.new }
 {
     let pen = mark_flow(text, front, index, exit, out);
     write_last(out, pen.at, LAST_FLOW, stop, kind);

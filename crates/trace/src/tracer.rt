@@ -3,11 +3,11 @@ ghost use Rattle.std.specs.Prelude.{◌≡◌, ◌++◌, ◌+◌, ◌*◌, ◌�
 ghost use Rattle.lexical.specs.Text.{limit};
 ghost use Rattle.rules.specs.Refusal.{outputRefusal};
 ghost use Rattle.rules.specs.Scan.{foundInline};
-ghost use Rattle.rules.specs.Trace.{wide, eventBytes, lastBytes, inlineTrace};
+ghost use Rattle.rules.specs.Trace.{wide, lastRecord, recordBytes, inlineTrace};
 ghost use Rattle.rules.specs.Output.{outputOf, Writes};
 ghost use Rattle.trace.specs.Answer.{inlineTraced, inlineBuffer};
 ghost use Rattle.lexical.specs.Buffer.{Written};
-ghost use Rattle.trace.specs.Writing.{eventLength, lastLength};
+ghost use Rattle.trace.specs.Writing.{eventLength, lastLength, endedBytes};
 ghost use Rattle.trace.specs.Walk.{textPiece, penStart, Marked};
 
 use crate::events::{HTML_TEXT_DATA, Pen, count_lines, mark, mark_pair, mark_rest};
@@ -54,7 +54,7 @@ fn mark_text(text: &[u8], front: &[u8], index: usize, stop: usize, out: &mut [u8
 fn write_text(text: &[u8], front: &[u8], index: usize, stop: usize, carry: u8, out: &mut [u8])
     requires within { (length text.now ≤ limit) × (index ≤ length front.now) × (length front.now ≤ stop) × (stop ≤ length text.now) }
     requires room { eventLength * length (textPiece front.now index stop) + lastLength ≤ length out.old }
-    ensures { Written out.old 0 (eventBytes wide text.now (textPiece front.now index stop) ++ lastBytes wide 13 stop carry) out.new }
+    ensures { Written out.old 0 (endedBytes text.now (textPiece front.now index stop) 13 stop carry) out.new }
 {
     let pen = mark_text(text, front, index, stop, out);
     write_last(out, pen.at, LAST_TEXT, stop, carry);
@@ -76,7 +76,7 @@ fn trace_text(text: &[u8], index: usize, stop: usize, carry: u8, out: &mut [u8])
 
 // The trace of a scan that finds nothing, or the refusal of it.
 pub(crate) fn trace_last(kind: u8, index: usize, value: u8, out: &mut [u8]) -> Output
-    ensures { Writes (outputRefusal 0 (length out.old) (lastBytes wide kind index value)) (lastBytes wide kind index value) out.old result out.new }
+    ensures { Writes (outputRefusal 0 (length out.old) (recordBytes wide (lastRecord kind index value))) (recordBytes wide (lastRecord kind index value)) out.old result out.new }
 {
     if out.len() < LAST_LENGTH {
         return Output::Refused { refusal: NO_ROOM };

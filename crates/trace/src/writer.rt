@@ -1,6 +1,6 @@
 // Writing the records of a trace into a lent buffer.
 ghost use Rattle.std.specs.Prelude.{◌∷◌, ◌+◌, ◌*◌, ◌<◌, ◌≤◌, length};
-ghost use Rattle.rules.specs.Trace.{wide, field, pointBytes, lastBytes};
+ghost use Rattle.rules.specs.Trace.{wide, lastRecord, atPoint, field, recordBytes};
 ghost use Rattle.lexical.specs.Buffer.{Written};
 ghost use Rattle.trace.specs.Writing.{eventLength, lastLength};
 
@@ -30,7 +30,7 @@ fn write_field(out: &mut [u8], at: usize, width: usize, value: usize)
 pub(crate) fn write_event(out: &mut [u8], at: usize, kind: u8, point: Point)
     requires room { at + eventLength ≤ length out.old }
     requires small { point.vs < 256 }
-    ensures { Written out.old at (kind ∷ pointBytes wide point) out.new }
+    ensures { Written out.old at (recordBytes wide (atPoint kind point)) out.new }
 {
     let from = at + 1;
     out[at] = kind;
@@ -43,7 +43,7 @@ pub(crate) fn write_event(out: &mut [u8], at: usize, kind: u8, point: Point)
 // The last record: its kind, the stop, and the carry or the block kind.
 pub(crate) fn write_last(out: &mut [u8], at: usize, kind: u8, stop: usize, value: u8)
     requires { at + lastLength ≤ length out.old }
-    ensures { Written out.old at (lastBytes wide kind stop value) out.new }
+    ensures { Written out.old at (recordBytes wide (lastRecord kind stop value)) out.new }
 {
     let from = at + 1;
     out[at] = kind;

@@ -321,9 +321,9 @@ module _ (ρ : Rules) (text flags : List ℕ) where
         ∙ ap (λ ps. fromIndex ρ (take stop text) i ++ ps) (along.others-are ∙ o)
 
     -- it ends before a line that is none of it, or with the text
-    pub ends-before : (from : ℕ) → from ≡ lineFrom text stop → stop < length text → endsParagraph ρ (lineAt text flags from m) ≡ true
+    pub ends-before : (next : ℕ) → next ≡ lineFrom text stop → stop < length text → endsParagraph ρ (lineAt text flags next m) ≡ true
         → ParagraphEnd ρ text flags i k (record { stop = stop; line = m })
-    ends-before from a l h =
+    ends-before next a l h =
         let r = sym (suffix-next flags m) in
         let g = ap (λ t. endsParagraph ρ (lineAt text flags t m)) (sym a) ∙ h in
         record {

@@ -2,21 +2,16 @@
 // writes only `refused N` and LF, to standard error: 01, What is read and given. Where it cannot read, or cannot write, it says so there, in one line.
 #![tactic(auto)]
 
+mod answer;
 mod call;
 mod input;
 mod output;
 
+use answer::{LIMIT, answer};
 use input::{Input, read_input};
-use lexical::line::count_lines;
 use lexical::slice::from_indices;
 use output::write_output;
-use screen::withhold::{Withheld, withhold};
-
-// How many bytes a bulletin has at most: fewer than the library takes.
-const LIMIT: usize = 16000;
-
-// 01, Where each refusal is met: the bulletin is too long.
-const TOO_LONG: u8 = 1;
+use screen::withhold::Withheld;
 
 // A line on standard error, and nothing where that cannot be written: there is no other place to say so.
 fn say(rt: &HostRuntime, line: &str) {
@@ -29,12 +24,9 @@ fn refuse(rt: &HostRuntime, refusal: u8) {
     if written.is_err() {}
 }
 
-fn answer(rt: &HostRuntime, bulletin: &[u8]) {
-    // There is one line more than there are line endings.
-    let flags = [0u8; LIMIT + 1];
+fn show(rt: &HostRuntime, bulletin: &[u8]) {
     let mut out = [0u8; LIMIT];
-    let lines = count_lines(bulletin);
-    match withhold(bulletin, from_indices(&flags, 0, lines), &mut out) {
+    match answer(bulletin, &mut out) {
         Withheld::Shown { length, pieces: _ } => {
             let shown = from_indices(&out, 0, length);
             let mut output = rt.stdout();
@@ -51,13 +43,7 @@ fn main(rt: HostRuntime) {
     let mut text = [0u8; LIMIT + 1];
     let mut input = rt.stdin();
     match read_input(&mut input, &mut text) {
-        Input::Read { length } => {
-            if length > LIMIT {
-                refuse(&rt, TOO_LONG);
-                return;
-            }
-            answer(&rt, from_indices(&text, 0, length));
-        }
+        Input::Read { length } => show(&rt, from_indices(&text, 0, length)),
         Input::Failed => say(&rt, "withhold: cannot read standard input\n"),
     }
 }

@@ -1,18 +1,16 @@
-use Rattle.std.proofs.Common.{sym, ◌∙◌, eq-eqb, ne_eqb}
-use Rattle.lexical.proofs.Ending.{ends-in, ends-out}
+-- A byte ends a line where an ending of one byte stands: the CR of CR LF does not.
+use Rattle.std.proofs.Common.{◌≡◌, List, [], ◌∷◌, ℕ, eqb, drop, sym, ◌∙◌, ap, refl}
+use Rattle.lexical.specs.Text.{byte, first}
+use Rattle.lexical.specs.Line.{lineEnding, endsLine}
+use Rattle.lexical.proofs.Cases.{split}
 use Rattle.lexical.proofs.line.ends_line.Goals as goal
 
-pub returns-then-index-bytes : goal.returns-then-index-bytes
-returns-then-index-bytes c = sym (ends-out _ _ c.if-index-bytes.true)
-
-pub returns-then-byte-eq10 : goal.returns-then-byte-eq10
-returns-then-byte-eq10 c = sym (ends-in _ _ c.if-index-bytes.false ∙ simp (eq-eqb _ _ c.if-byte-eq10.true))
-
-pub returns-then-peek-eq10 : goal.returns-then-peek-eq10
-returns-then-peek-eq10 c = sym (ends-in _ _ c.if-index-bytes.false ∙ simp (ne_eqb _ _ c.if-byte-eq10.false, eq-eqb _ _ c.if-byte-eq13.true, ← c.peek.ensures, eq-eqb _ _ c.if-peek-eq10.true))
-
-pub returns-then-byte-eq13 : goal.returns-then-byte-eq13
-returns-then-byte-eq13 c = sym (ends-in _ _ c.if-index-bytes.false ∙ simp (ne_eqb _ _ c.if-byte-eq10.false, eq-eqb _ _ c.if-byte-eq13.true, ← c.peek.ensures, ne_eqb _ _ c.if-peek-eq10.false))
+ends-by-length : (s : List ℕ) → endsLine s ≡ eqb (lineEnding s) 1
+unfolding endsLine lineEnding
+ends-by-length [] = refl
+ends-by-length (x ∷ xs) =
+    split (eqb x (byte "\n")) (λ n. simp n)
+    (λ n. split (eqb x (byte "\r")) (λ r. split (eqb (first xs) (byte "\n")) (λ l. simp (n, r, l)) (λ l. simp (n, r, l))) (λ r. simp (n, r)))
 
 pub returns : goal.returns
-returns c = sym (ends-in _ _ c.if-index-bytes.false ∙ simp (ne_eqb _ _ c.if-byte-eq10.false, ne_eqb _ _ c.if-byte-eq13.false))
+returns c = ap (λ n. eqb n 1) c.line_ending.ensures ∙ sym (ends-by-length (drop c.args.index c.args.bytes.now))

@@ -1,10 +1,9 @@
 -- The length that was counted is that of the trace: where the block is left adds no event. So the check against the buffer is that of 7, and behind it there is room.
 use mathlib.Core.Path.{sym, ◌∙◌, ap}
 use native.Mathlib.Omega.{arith}
-use mathlib.Core.List.{◌++◌}
 use lib.ListN.{length}
-use Rattle.rules.specs.Trace.{wide, eventBytes, lastBytes}
 use Rattle.trace.specs.Walk.{flowPiece}
+use Rattle.trace.specs.Writing.{endedBytes}
 use Rattle.lexical.proofs.Stores.{written-as}
 use Rattle.rules.proofs.Outputs.{not-written}
 use Rattle.trace.proofs.Outputs.{is-traced}
@@ -43,4 +42,4 @@ returns c = let a = c.args in
     let F = c.from_indices-front.result.now in
     let z = flow-trace-length a.text.now F a.index a.kind a.stop a.closed pre.1 pre.2 c.from_indices-front.ensures n c.flow_length-length.ensures in
     let t = flow-trace a.text.now F a.index a.kind a.stop a.closed pre.1 pre.2 c.from_indices-front.ensures in
-    is-traced _ _ n z c.if-out-length.false (written-as _ (t ∙ ap (λ e. eventBytes wide a.text.now (flowPiece F a.index e) ++ lastBytes wide 14 a.stop a.kind) (sym c.flow_exit-exit.ensures)) c.write_flow.ensures)
+    is-traced _ _ n z c.if-out-length.false (written-as _ (t ∙ ap (λ e. endedBytes a.text.now (flowPiece F a.index e) 14 a.stop a.kind) (sym c.flow_exit-exit.ensures)) c.write_flow.ensures)

@@ -2,4 +2,4 @@ use Rattle.trace.proofs.Marks.{and-last}
 use Rattle.trace.proofs.block.write_flow.Goals as goal
 
 pub returns : goal.returns
-returns c = and-last c.mark_flow-pen.ensures c.write_last.ensures
+returns c = let a = c.args in and-last 14 a.stop a.kind c.mark_flow-pen.ensures c.write_last.ensures

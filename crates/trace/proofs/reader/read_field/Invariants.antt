@@ -1,13 +1,12 @@
 -- The invariant: the bytes read so far, from the last to the first, give the number of those bytes, which is below the power of 256 for so many.
-use Prim.Native.Nat.{◌+◌, ◌-◌, ◌<◌, ◌≤◌}
+use Prim.Native.Nat.{◌+◌, ◌-◌, ◌^◌, ◌<◌, ◌≤◌}
 use mathlib.Core.Path.{◌≡◌}
 use lib.ListN.{drop}
 use Rattle.rules.specs.Trace.{number}
-use Rattle.trace.proofs.Numbers.{top}
 use Rattle.trace.proofs.reader.read_field.Given as goal
 
 abbrev pub invariant-loop-i : goal.invariant-loop-i
-invariant-loop-i l = (l.i ≤ l.width) × (l.value < top (l.width - l.i)) × (l.value ≡ number (l.width - l.i) (drop (l.at + l.i) l.trace))
+invariant-loop-i l = (l.i ≤ l.width) × (l.value < 256 ^ (l.width - l.i)) × (l.value ≡ number (l.width - l.i) (drop (l.at + l.i) l.trace))
 
 abbrev pub decreases-loop-i : goal.decreases-loop-i
 decreases-loop-i l = l.i

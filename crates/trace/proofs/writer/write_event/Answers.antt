@@ -22,4 +22,4 @@ bounds-out-from c = let a = c.args in
 
 pub returns : goal.returns
 returns c = let a = c.args in
-    event-steps wide a.point c.write_field.ensures c.write_field-2.ensures c.write_field-3.ensures
+    event-steps wide a.kind a.point c.write_field.ensures c.write_field-2.ensures c.write_field-3.ensures

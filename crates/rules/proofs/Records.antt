@@ -1,0 +1,163 @@
+-- Laws of records with fields of w bytes: how long they are, and that records written one behind the other are read back where they fit.
+use mathlib.Core.Path.{◌≡◌, refl, sym, ◌∙◌, ap}
+use mathlib.Core.Bool.{false, ◌||◌}
+use mathlib.Core.List.{List, [], ◌∷◌, ◌++◌, append-nil, append_assoc}
+use Prim.Native.Nat.{ℕ, zero, suc, ◌+◌, ◌*◌, ◌≤◌}
+use native.Mathlib.Omega.{arith}
+use native.Mathlib.Numerals.{one-add}
+use lib.Dec.{eqb, ltb}
+use lib.ListN.{length, get_or, drop, length-append}
+use lib.Seq.{drop-drop, drop_at, get_or-drop}
+use borrow.Author.Tests.{ne_eqb, le-ltb, le-leb, lt-leb}
+use Rattle.std.specs.Prelude.{All}
+use Rattle.std.proofs.lemmas.List.Elements.{All-head, All-tail}
+use Rattle.lexical.specs.Point.{pointAt}
+use Rattle.rules.specs.Trace.{field, Event, Record, eventRecord, lastRecord, refusedRecord, atPoint, eventRecords, recordBytes, traceBytes, recordLength, recordAt, readTrace}
+use Rattle.rules.specs.ReadBack.{Fits}
+use Rattle.rules.proofs.Fields.{field-length, read-back}
+
+-- ---- records behind records
+pub records-append : (text : List ℕ) (a b : List Event) → eventRecords text (a ++ b) ≡ eventRecords text a ++ eventRecords text b
+records-append text [] b = refl
+records-append text (e ∷ a) b = ap (λ rs. atPoint e.kind (pointAt text e.index) ∷ rs) (records-append text a b)
+
+-- a record that can be read: its kind is one of those of its form, and its numbers fit
+abbrev pub Sound : ℕ → Record → Type 0
+Sound w (eventRecord kind l c i v) = (1 ≤ kind) × (kind ≤ 12) × Fits w (eventRecord kind l c i v)
+Sound w (lastRecord kind s n) = (13 ≤ kind) × (kind ≤ 14) × Fits w (lastRecord kind s n)
+Sound w (refusedRecord n) = ⊥
+
+module _ (w : ℕ) where
+  pub bytes-append : (a b : List Record) → traceBytes w (a ++ b) ≡ traceBytes w a ++ traceBytes w b
+  unfolding traceBytes
+  bytes-append [] b = refl
+  bytes-append (r ∷ a) b = ap (λ s. recordBytes w r ++ s) (bytes-append a b) ∙ sym (append_assoc (recordBytes w r) (traceBytes w a) (traceBytes w b))
+
+  event-size : (kind : ℕ) → kind ≤ 12 → recordLength w kind ≡ 2 + 3 * w
+  unfolding recordLength
+  event-size kind h = simp (le-leb kind 12 h)
+
+  last-size : (kind : ℕ) → 13 ≤ kind → recordLength w kind ≡ 2 + w
+  unfolding recordLength
+  last-size kind h = simp (lt-leb kind 12 h)
+
+  -- ---- the bytes of a record
+  pub event-bytes : (kind l c i v : ℕ) → length (recordBytes w (eventRecord kind l c i v)) ≡ 2 + 3 * w
+  unfolding recordBytes
+  event-bytes kind l c i v = simp (length-append, field-length) (omega arith)
+
+  pub last-bytes : (kind stop n : ℕ) → length (recordBytes w (lastRecord kind stop n)) ≡ 2 + w
+  unfolding recordBytes
+  last-bytes kind stop n = simp (length-append, field-length) (omega arith)
+
+  pub one-record : (r : Record) → traceBytes w (r ∷ []) ≡ recordBytes w r
+  unfolding traceBytes
+  one-record r = append-nil (recordBytes w r)
+
+  -- ---- an event, and what is behind it
+  module _ (kind l c i v : ℕ) (rest : List ℕ) where
+    abbrev event : List ℕ
+    event = kind ∷ (field w l ++ (field w c ++ (field w i ++ (v ∷ rest))))
+
+    event-then : recordBytes w (eventRecord kind l c i v) ++ rest ≡ event
+    unfolding recordBytes
+    event-then = simp append_assoc
+
+    event-length : length event ≡ 2 + 3 * w + length rest
+    event-length = omega (arith, ap length event-then, length-append (recordBytes w (eventRecord kind l c i v)) rest, event-bytes kind l c i v)
+
+    behind-line : drop (1 + w) event ≡ field w c ++ (field w i ++ (v ∷ rest))
+    behind-line = rw (one-add w) (drop_at (field w l) (field w c ++ (field w i ++ (v ∷ rest))) w (field-length w l))
+
+    behind-column : drop (1 + 2 * w) event ≡ field w i ++ (v ∷ rest)
+    behind-column =
+        let e : 1 + 2 * w ≡ (1 + w) + w = omega arith in
+        rw (e, ← drop-drop w (1 + w) event, behind-line) (drop_at (field w c) (field w i ++ (v ∷ rest)) w (field-length w c))
+
+    behind-index : drop (1 + 3 * w) event ≡ v ∷ rest
+    behind-index =
+        let e : 1 + 3 * w ≡ (1 + 2 * w) + w = omega arith in
+        rw (e, ← drop-drop w (1 + 2 * w) event, behind-column) (drop_at (field w i) (v ∷ rest) w (field-length w i))
+
+    vs-there : get_or event (1 + 3 * w) 0 ≡ v
+    vs-there =
+        let z : 1 + 3 * w ≡ (1 + 3 * w) + 0 = omega arith in
+        ap (λ n. get_or event n 0) z ∙ sym (get_or-drop (1 + 3 * w) event 0 0) ∙ rw behind-index
+
+    module _ (s : Sound w (eventRecord kind l c i v)) where
+      event-behind : drop (recordLength w kind) event ≡ rest
+      event-behind =
+          let e : 2 + 3 * w ≡ (1 + 3 * w) + 1 = omega arith in
+          rw (event-size kind s.1, e, ← drop-drop 1 (1 + 3 * w) event, behind-index)
+
+      event-read : recordAt w event ≡ eventRecord kind l c i v
+      unfolding recordAt
+      event-read =
+          let some : eqb (length event) 0 ≡ false = ne_eqb (length event) 0 (λ z. omega (arith, event-length)) in
+          let right : (eqb kind 0 || ltb 14 kind) ≡ false = rw (ne_eqb kind 0 (λ z. omega (arith, s.0)), le-ltb 14 kind (omega (arith, s.1))) in
+          let whole : ltb (length event) (recordLength w kind) ≡ false = le-ltb (length event) (recordLength w kind) (omega (arith, event-length, event-size kind s.1)) in
+          rw (
+            some,
+            right,
+            whole,
+            le-leb kind 12 s.1,
+            behind-line,
+            behind-column,
+            vs-there,
+            read-back w l (field w c ++ (field w i ++ (v ∷ rest))) s.2.0,
+            read-back w c (field w i ++ (v ∷ rest)) s.2.1,
+            read-back w i (v ∷ rest) s.2.2,
+          )
+
+  -- ---- a last record, and what is behind it
+  module _ (kind stop n : ℕ) (rest : List ℕ) where
+    abbrev last : List ℕ
+    last = kind ∷ (field w stop ++ (n ∷ rest))
+
+    last-then : recordBytes w (lastRecord kind stop n) ++ rest ≡ last
+    unfolding recordBytes
+    last-then = simp append_assoc
+
+    last-length : length last ≡ 2 + w + length rest
+    last-length = omega (arith, ap length last-then, length-append (recordBytes w (lastRecord kind stop n)) rest, last-bytes kind stop n)
+
+    behind-stop : drop (1 + w) last ≡ n ∷ rest
+    behind-stop = rw (one-add w) (drop_at (field w stop) (n ∷ rest) w (field-length w stop))
+
+    value-there : get_or last (1 + w) 0 ≡ n
+    value-there =
+        let z : 1 + w ≡ (1 + w) + 0 = omega arith in
+        ap (λ m. get_or last m 0) z ∙ sym (get_or-drop (1 + w) last 0 0) ∙ rw behind-stop
+
+    module _ (s : Sound w (lastRecord kind stop n)) where
+      last-behind : drop (recordLength w kind) last ≡ rest
+      last-behind =
+          let e : 2 + w ≡ (1 + w) + 1 = omega arith in
+          rw (last-size kind s.0, e, ← drop-drop 1 (1 + w) last, behind-stop)
+
+      last-read : recordAt w last ≡ lastRecord kind stop n
+      unfolding recordAt
+      last-read =
+          let some : eqb (length last) 0 ≡ false = ne_eqb (length last) 0 (λ z. omega (arith, last-length)) in
+          let right : (eqb kind 0 || ltb 14 kind) ≡ false = rw (ne_eqb kind 0 (λ z. omega (arith, s.0)), le-ltb 14 kind s.1) in
+          let whole : ltb (length last) (recordLength w kind) ≡ false = le-ltb (length last) (recordLength w kind) (omega (arith, last-length, last-size kind s.0)) in
+          rw (some, right, whole, lt-leb kind 12 s.0, value-there, read-back w stop (n ∷ rest) s.2)
+
+  -- ---- all
+  read-none : (n : ℕ) → readTrace w n [] ≡ refusedRecord 9
+  unfolding readTrace recordAt
+  read-none zero = refl
+  read-none (suc n) = refl
+
+  pub read-written : (rs : List Record) (n : ℕ) → All (Sound w) rs → readTrace w n (traceBytes w rs) ≡ get_or rs n (refusedRecord 9)
+  unfolding traceBytes readTrace
+  read-written [] n s = read-none n
+  read-written (eventRecord kind l c i v ∷ rs) zero s = rw (event-then kind l c i v (traceBytes w rs)) (event-read kind l c i v (traceBytes w rs) (All-head (Sound w) _ rs s))
+  read-written (eventRecord kind l c i v ∷ rs) (suc n) s =
+      let h = All-head (Sound w) _ rs s in
+      rw (event-then kind l c i v (traceBytes w rs), event-read kind l c i v (traceBytes w rs) h, event-behind kind l c i v (traceBytes w rs) h) (read-written rs n (All-tail (Sound w) _ rs s))
+  read-written (lastRecord kind stop m ∷ rs) zero s = rw (last-then kind stop m (traceBytes w rs)) (last-read kind stop m (traceBytes w rs) (All-head (Sound w) _ rs s))
+  read-written (lastRecord kind stop m ∷ rs) (suc n) s =
+      let h = All-head (Sound w) _ rs s in
+      rw (last-then kind stop m (traceBytes w rs), last-read kind stop m (traceBytes w rs) h, last-behind kind stop m (traceBytes w rs) h) (read-written rs n (All-tail (Sound w) _ rs s))
+  read-written (refusedRecord m ∷ rs) n s = absurd (All-head (Sound w) _ rs s)

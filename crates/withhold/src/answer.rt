@@ -1,0 +1,28 @@
+// What the program shows of a bulletin.
+ghost use Rattle.std.specs.Prelude.{◌≡◌, length};
+ghost use Rattle.screen.specs.Answer.{shownOf};
+ghost use Rattle.withhold.specs.Answer.{answerOf, bufferOf};
+
+use lexical::line::count_lines;
+use lexical::slice::from_indices;
+use screen::withhold::{Withheld, withhold};
+
+// How many bytes a bulletin has at most: fewer than the library takes.
+pub(crate) const LIMIT: usize = 16000;
+
+// 01, Where each refusal is met: the bulletin is too long.
+const TOO_LONG: u8 = 1;
+
+// Withholds from a bulletin all of whose flags are 0, unless it is too long.
+pub(crate) fn answer(bulletin: &[u8], out: &mut [u8]) -> Withheld
+    ensures answer { shownOf result ≡ answerOf bulletin.now (length out.old) }
+    ensures buffer { out.new ≡ bufferOf bulletin.now out.old }
+{
+    if bulletin.len() > LIMIT {
+        return Withheld::Refused { refusal: TOO_LONG };
+    }
+    // There is one line more than there are line endings.
+    let flags = [0u8; LIMIT + 1];
+    let lines = count_lines(bulletin);
+    withhold(bulletin, from_indices(&flags, 0, lines), out)
+}
