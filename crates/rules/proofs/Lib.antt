@@ -11,6 +11,8 @@ pub mod Refusals
 pub mod Outputs
 pub mod Cut
 pub mod LineLaws
+pub mod Fronts
+pub mod Blanks
 pub mod Fields
 pub mod Records
 pub mod Events

@@ -1,10 +1,12 @@
 -- The premises of demand 3 are needed: for each byte that is not private, two bulletins that differ in it and do not show alike; and lines and a body that run
--- one does not withhold. So is it that a record's numbers fit their fields. Each table is proved by one computed fact.
-use Rattle.std.specs.Prelude.{ℕ, suc, ◌≡◌, refl, Bool, true, ◌&&◌, ◌||◌, not, List, [], ◌∷◌, ◌++◌, eqb, length}
+-- one does not withhold. So is it that the numbers of a record fit their fields, and all of the room that suffices for a trace. Each table is proved by one
+-- computed fact.
+use Rattle.std.specs.Prelude.{ℕ, suc, ◌+◌, ◌*◌, ◌≡◌, refl, Bool, true, ◌&&◌, ◌||◌, not, List, [], ◌∷◌, ◌++◌, eqb, length}
 use Rattle.lexical.specs.Text.{byte, bytes}
 use Rattle.lexical.specs.Name.{all, sameBytes}
 use Rattle.rules.specs.Reading.{crate, standard}
-use Rattle.rules.specs.Trace.{eventRecord, lastRecord, recordBytes, recordAt}
+use Rattle.rules.specs.Scan.{inlineScan, blockScan}
+use Rattle.rules.specs.Trace.{eventRecord, lastRecord, recordBytes, inlineTrace, blockTrace, recordAt}
 use Rattle.rules.specs.Withhold.{pieces, holds, shown, count}
 use Rattle.rules.specs.Private.{isPrivate, any, Form, comment, declaration, cdata}
 use Rattle.rules.specs.Computing.{computing}
@@ -109,3 +111,12 @@ stop-cut = refl
 pub index-cut : recordAt 2 (recordBytes 2 (eventRecord 9 1 1 65537 0)) ≡ eventRecord 9 1 1 1 0
 unfolding computing
 index-cut = refl
+
+-- a block of three bytes and an inline piece of six need all the room that suffices
+pub block-room-needed : length (blockTrace (bytes "<?\n") 0 (blockScan crate (bytes "<?\n") (0 ∷ 0 ∷ []) 0)) ≡ 28 * 3 + 6
+unfolding computing
+block-room-needed = refl
+
+pub inline-room-needed : length (inlineTrace (bytes "<a\nb\n>") 0 (inlineScan crate (bytes "<a\nb\n>") 0 0)) ≡ 28 * 6 + 6
+unfolding computing
+inline-room-needed = refl

@@ -1,5 +1,5 @@
--- What is claimed of a scan's trace, 02, Ask 7: its fields hold every number, and it reads back as its records.
-use Rattle.std.specs.Prelude.{ℕ, ◌≡◌, ◌^◌, ◌<◌, List, get_or, All}
+-- What is claimed of a scan's trace, 02, Ask 7: its fields hold every number, it reads back as its records, and so much room suffices for it.
+use Rattle.std.specs.Prelude.{ℕ, ◌+◌, ◌*◌, ◌^◌, ◌≡◌, ◌<◌, ◌≤◌, List, length, get_or, All}
 use Rattle.rules.specs.Reading.{crate}
 use Rattle.rules.specs.Scan.{inlineScan, blockScan}
 use Rattle.rules.specs.Trace.{wide, Record, eventRecord, lastRecord, refusedRecord, inlineRecords, blockRecords, inlineTrace, blockTrace, readTrace}
@@ -19,3 +19,8 @@ pub record ReadsBack (rs : List Record) (trace : List ℕ) : Type 0 where
 pub record TracesReadBack : Type 0 where
   pub inline : (text : List ℕ) (i k : ℕ) → ReadsBack (inlineRecords text i (inlineScan crate text i k)) (inlineTrace text i (inlineScan crate text i k))
   pub block : (text flags : List ℕ) (i : ℕ) → ReadsBack (blockRecords text i (blockScan crate text flags i)) (blockTrace text i (blockScan crate text flags i))
+
+-- room for two records for each byte, and a last one, suffices for any trace
+pub record RoomSuffices : Type 0 where
+  pub inline : (text : List ℕ) (i k : ℕ) → length (inlineTrace text i (inlineScan crate text i k)) ≤ 28 * length text + 6
+  pub block : (text flags : List ℕ) (i : ℕ) → length (blockTrace text i (blockScan crate text flags i)) ≤ 28 * length text + 6

@@ -6,7 +6,10 @@ pub mod Walks
 pub mod Turns
 pub mod Outputs
 pub mod Pieces
+pub mod Ends
 pub mod Stops
 pub mod Empty
 pub mod BlockStops
 pub mod ReadBack
+pub mod Counts
+pub mod Room

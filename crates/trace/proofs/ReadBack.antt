@@ -52,7 +52,7 @@ module _ (text : List ℕ) (i k : ℕ) where
   unfolding inlineRecords
   inline-sound (foundInline stop c) e =
       let m = admitted text i k (found-passes text i k stop c e) in
-      let b = stop-between text i k m.counted m.within stop c (found-at text i k stop c e) in
+      let b = stop-between text i k m.counted stop c (found-at text i k stop c e) in
       ended-sound text m.small _ 13 stop c (text-placed (length text) i stop (taken text i stop) (omega (arith, taken-size text i stop b.from b.to)) b.to) (omega arith) (omega arith) b.to
   inline-sound (noInline c) e =
       let m = admitted text i k (none-passes text i k c e) in

@@ -9,7 +9,7 @@ pub trace_text-requires : goal.trace_text-requires
 trace_text-requires c = let a = c.args in
     let e = sym c.inline_scan.ensures ∙ ap inlineOf c.in-Found.is in
     let m = admitted a.text.now a.index a.carry (found-passes a.text.now a.index a.carry _ _ e) in
-    let b = stop-between a.text.now a.index a.carry m.counted m.within _ _ (found-at a.text.now a.index a.carry _ _ e) in
+    let b = stop-between a.text.now a.index a.carry m.counted _ _ (found-at a.text.now a.index a.carry _ _ e) in
     (m.small, b.from, b.to)
 
 pub returns-in-Found : goal.returns-in-Found

@@ -1,0 +1,184 @@
+-- Room for two records for each byte of a text, and for a last one, suffices: what a scan finds has two bytes in its first line, in a block behind the
+-- indentation; and no line behind an ending of an inline piece is blank, since the text has no blank line and the piece ends in `>`.
+use mathlib.Core.Path.{◌≡◌, refl, sym, ◌∙◌, ap}
+use mathlib.Core.Bool.{false, not}
+use mathlib.Core.List.{List, [], ◌∷◌}
+use Prim.Native.Nat.{ℕ, zero, suc, ◌+◌, ◌*◌, ◌-◌, ◌<◌, ◌≤◌}
+use native.Mathlib.Omega.{arith}
+use lib.Dec.{eqb, ltb, leb}
+use lib.ListN.{length, get_or, take, drop, length-drop}
+use lib.Seq.{length-take-le}
+use borrow.Author.Tests.{eqb-true, eqb-false, ltb-true, ltb-false}
+use Rattle.lexical.specs.Text.{byte, run}
+use Rattle.lexical.specs.Byte.{isSpaceOrTab, isLineEndingByte, isWhitespace}
+use Rattle.lexical.specs.Line.{lineEnding, lineEndings, lineLength}
+use Rattle.lexical.proofs.Cases.{split}
+use Rattle.lexical.proofs.Suffix.{drop-take}
+use Rattle.rules.specs.Reading.{crate as ofCrate}
+use Rattle.rules.specs.Search.{somewhere}
+use Rattle.rules.specs.Refusal.{blankFollows}
+use Rattle.rules.specs.Lines.{Line, line, flagged}
+use Rattle.rules.specs.Block.{indentation, closes, kindAt, kindOf, extentOf, stopAfter}
+use Rattle.rules.specs.Scan.{InlineAnswer, foundInline, noInline, refusedInline, inlineScan, Found, BlockAnswer, foundBlock, noBlock, refusedBlock, blockOf, blockAt, linesAt, blockScan}
+use Rattle.rules.specs.Trace.{wide, lastRecord, inlineTrace, blockTrace, inlineRecords, blockRecords, traceBytes, flowExit}
+use Rattle.rules.specs.ReadBack.{RoomSuffices}
+use Rattle.rules.specs.declared.Rules.{Rules}
+use Rattle.rules.proofs.Cut.{behind, lineFrom, content-length, run-content, run-within, space-apart}
+use Rattle.rules.proofs.LineLaws.{contentFrom, first-line, stop-from, stop-is}
+use Rattle.rules.proofs.Fronts.{run-front, run-least, lastOr, last-front}
+use Rattle.rules.proofs.Blanks.{no-blank-front, not-blank, some-data}
+use Rattle.rules.proofs.Records.{last-bytes, one-record}
+use Rattle.flow.proofs.OpenMeans.{nothing-kind, not-opened, nothing-opened}
+use Rattle.trace.specs.Walk.{textPiece, flowPiece}
+use Rattle.trace.proofs.Outputs.{trace-length}
+use Rattle.trace.proofs.Pieces.{text-trace, flow-trace}
+use Rattle.trace.proofs.Stops.{admitted, found-passes, found-at}
+use Rattle.trace.proofs.BlockStops.{block-admitted, block-between, block-found-passes, block-found-at}
+use Rattle.trace.proofs.Ends.{Opened, opened}
+use Rattle.trace.proofs.Counts.{text-piece-most, flow-piece-most}
+
+-- the front that a piece ends, as its trace has it
+front-is : (text : List ℕ) (stop : ℕ) → take stop text ≡ take (stop - 0) (drop 0 text)
+front-is text stop = let z : stop ≡ stop - 0 = omega arith in ap (λ n. take n text) z
+
+-- a trace of only a last record
+last-most : (kind stop c n : ℕ) → length (traceBytes wide (lastRecord kind stop c ∷ [])) ≤ 28 * n + 6
+last-most kind stop c n = omega (arith, ap length (one-record wide (lastRecord kind stop c)), last-bytes wide kind stop c)
+
+-- ---- inline
+-- F is the text before the stop
+module _ (text : List ℕ) (i stop : ℕ) (o : Opened text i stop) where
+  abbrev F : List ℕ
+  F = take stop text
+
+  front-length : length F ≡ stop
+  front-length = length-take-le stop text o.to
+
+  -- its last byte is `>`
+  last-solid : isWhitespace (lastOr 0 F) ≡ false
+  last-solid =
+      let f = o.far in
+      let t = o.to in
+      let z : stop ≡ suc (stop - 1) = omega arith in
+      ap (λ n. isWhitespace (lastOr 0 (take n text))) z ∙ ap isWhitespace (last-front (stop - 1) 0 text (omega arith) ∙ o.mark)
+
+  -- the first line has two bytes
+  first-long : 2 ≤ lineLength (drop i F)
+  first-long =
+      let f = o.far in
+      omega (arith, ap lineLength (drop-take i stop text), run-least (λ b. not (isLineEndingByte b)) 2 (stop - i) (drop i text) o.long (omega arith))
+
+  module _ (filled : somewhere blankFollows text ≡ false) where
+    -- no line behind an ending is blank
+    lines-solid : (j : ℕ) → j ≤ length F → (lineEnding (drop j F) ≡ 0 → ⊥) → run isSpaceOrTab (drop (lineFrom F j) F) < lineLength (drop (lineFrom F j) F)
+    lines-solid j h e = some-data (drop (lineFrom F j) F) (not-blank F j (no-blank-front stop text filled) last-solid h e)
+
+    text-most : length (textPiece F i stop) ≤ 2 * length text
+    text-most =
+        let f = o.far in
+        let t = o.to in
+        omega (arith, text-piece-most F i stop lines-solid (omega (arith, front-length)) first-long, front-length)
+
+module _ (text : List ℕ) (i k : ℕ) where
+  inline-most : (a : InlineAnswer) → inlineScan ofCrate text i k ≡ a → length (inlineTrace text i a) ≤ 28 * length text + 6
+  unfolding inlineRecords traceBytes
+  inline-most (foundInline stop c) e =
+      let m = admitted text i k (found-passes text i k stop c e) in
+      let o = opened text i k m.counted stop c (found-at text i k stop c e) in
+      let f = o.far in
+      omega (
+        arith,
+        ap length (text-trace text (take stop text) i stop c (omega arith) o.to (front-is text stop)),
+        trace-length text (textPiece (take stop text) i stop) 13 stop c,
+        text-most text i stop o m.filled,
+      )
+  inline-most (noInline c) e = last-most 13 i c (length text)
+  inline-most (refusedInline n c) e = omega arith
+
+-- ---- blocks
+-- fewer than two bytes open no block
+short-none : (ρ : Rules) (f : ℕ) (s : List ℕ) → length s < 2 → kindAt ρ f s ≡ 0
+short-none ρ f [] h = nothing-opened ρ f
+short-none ρ f (x ∷ []) h =
+    split (eqb x (byte "<")) (λ t. ap (λ b. kindAt ρ f (b ∷ [])) (eqb-true x (byte "<") t) ∙ nothing-kind ρ f) (λ t. not-opened ρ f x [] t)
+short-none ρ f (x ∷ y ∷ ys) h = absurd (omega arith)
+
+-- a line that opens one has two behind its indentation
+kind-long : (ρ : Rules) (l : Line) → (kindOf ρ l ≡ 0 → ⊥) → indentation l.content + 2 ≤ length l.content
+unfolding kindOf
+kind-long ρ l h =
+    let s = drop (indentation l.content) l.content in
+    split (leb (indentation l.content) 3)
+    (λ d. split (ltb (length s) 2) (λ t. absurd (h (rw d (short-none ρ l.flag s (ltb-true (length s) 2 t)))))
+    (λ t. omega (arith, ltb-false (length s) 2 t, length-drop (indentation l.content) l.content)))
+    (λ d. absurd (h (rw d)))
+
+-- a block has a line at least
+extent-some : (ρ : Rules) (k : ℕ) (l : Line) (ls : List Line) → 1 ≤ (extentOf ρ k l ls).lines
+unfolding extentOf
+extent-some ρ k l ls = split (closes ρ k l.content) (λ t. rw t (omega arith)) (λ t. rw t (omega arith))
+
+-- and so the whole of its first
+first-taken : (i n : ℕ) (l : Line) (ls : List Line) → 1 ≤ n → i + length l.content ≤ stopAfter i n (l ∷ ls)
+first-taken i zero l ls h = absurd (omega arith)
+first-taken i (suc n) l ls h = omega (arith, stop-is n i l ls, stop-from (i + length l.content) n ls)
+
+-- the content of the first line of a block, which begins at i
+record Begun (content : List ℕ) (i stop : ℕ) : Type 0 where
+  pub long : indentation content + 2 ≤ length content
+  pub to : i + length content ≤ stop
+
+begun : (i : ℕ) (l : Line) (ls : List Line) (b : Found) → blockOf ofCrate i (l ∷ ls) ≡ foundBlock b → Begun l.content i b.stop
+unfolding blockOf
+begun i l ls b f =
+    let k = kindOf ofCrate l in
+    let n = (extentOf ofCrate k l ls).lines in
+    split (eqb k 0) (λ t. let g = rw t at f in let z : ◌≡◌ {A = ℕ} 0 1 = cc in absurd (omega arith))
+    (λ t.
+    let g = rw t at f in
+    let s : stopAfter i n (l ∷ ls) ≡ b.stop = cc in
+    record { long = kind-long ofCrate l (eqb-false k 0 t); to = omega (arith, s, first-taken i n l ls (extent-some ofCrate k l ls)) })
+
+module _ (text flags : List ℕ) (i : ℕ) where
+  begun-at : (b : Found) → blockAt ofCrate text flags i ≡ foundBlock b → Begun (contentFrom text i) i b.stop
+  unfolding blockAt linesAt
+  begun-at b f =
+      let n = lineEndings (take i text) in
+      begun i (line (get_or (drop n flags) 0 0) [] (contentFrom text i)) (flagged (drop 1 (drop n flags)) (behind (drop (i + lineLength (drop i text)) text))) b
+      (sym (ap (blockOf ofCrate i) (first-line text flags i n)) ∙ f)
+
+  -- the first line of the front is that of the text
+  flow-most : (stop exit : ℕ) → Begun (contentFrom text i) i stop → i ≤ length text → stop ≤ length text
+      → length (flowPiece (take stop text) i exit) ≤ 2 * length text
+  flow-most stop exit b h w =
+      let s = drop i text in
+      let F = take stop text in
+      let size : length F ≡ stop = length-take-le stop text w in
+      let cut : drop i F ≡ take (stop - i) s = drop-take i stop text in
+      let long = b.long in
+      let to = b.to in
+      let content = content-length s in
+      let inner = run-content (λ x. eqb x (byte " ")) space-apart s in
+      let line-is = ap lineLength cut ∙ run-front (λ x. not (isLineEndingByte x)) (stop - i) s (omega arith) in
+      let indent-is = ap indentation cut ∙ run-front (λ x. eqb x (byte " ")) (stop - i) s (omega (arith, run-within (λ x. eqb x (byte " ")) space-apart s)) in
+      omega (arith, flow-piece-most F i exit (omega arith) (omega arith))
+
+  block-most : (a : BlockAnswer) → blockScan ofCrate text flags i ≡ a → length (blockTrace text i a) ≤ 28 * length text + 6
+  unfolding blockRecords traceBytes
+  block-most (foundBlock b) e =
+      let m = block-admitted text flags i (block-found-passes text flags i b e) in
+      let at = block-found-at text flags i b e in
+      let w = block-between text flags i m.within b at in
+      let F = take b.stop text in
+      let exit = flowExit text i b.kind b.stop b.closed in
+      omega (
+        arith,
+        ap length (flow-trace text F i b.kind b.stop b.closed w.from w.to (front-is text b.stop)),
+        trace-length text (flowPiece F i exit) 14 b.stop b.kind,
+        flow-most b.stop exit (begun-at b at) m.within w.to,
+      )
+  block-most noBlock e = last-most 14 i 0 (length text)
+  block-most (refusedBlock n) e = omega arith
+
+pub room-suffices : RoomSuffices
+room-suffices = record { inline = λ text i k. inline-most text i k _ refl; block = λ text flags i. block-most text flags i _ refl }
