@@ -12,15 +12,15 @@
 mod filter;
 
 use foringamo::Inline;
+use measure::inputs::{bulletins, filtered_bulletins, flags, repeated, Bulletin, RICH};
+use measure::{commas, head, row, Turns, Work};
 use std::hint::black_box;
-use std::time::{Duration, Instant};
+use std::time::Duration;
 
-const ROUND: Duration = Duration::from_millis(1);
-const ROUNDS: usize = 25;
-// No further round of an input begins after this time.
-const ENOUGH: Duration = Duration::from_secs(1);
+const TURNS: Turns = Turns { rounds: 25, enough: Duration::from_secs(1) };
 const PASSES: usize = 6;
 
+// No longer, since the Rust takes quadratic time for some bulletins: a second for one of 16,000 bytes. The library's times up to its limit are bench/long.rs's.
 const LENGTHS: [usize; 3] = [4_000, 8_000, 16_000];
 
 // What a scan finds: the kind of a block, 0 for an inline piece, and the stop.
@@ -169,36 +169,7 @@ mod rust {
     }
 }
 
-// ---- time
-
-struct Work {
-    run: Box<dyn FnMut()>,
-    // How often in a round.
-    times: u32,
-    // Of once, in seconds.
-    least: f64,
-}
-
-impl Work {
-    fn new(run: impl FnMut() + 'static) -> Work {
-        let mut work = Work { run: Box::new(run), times: 1, least: f64::INFINITY };
-        while work.round() < ROUND / 2 {
-            work.times *= 2;
-        }
-        work.least = f64::INFINITY;
-        work
-    }
-
-    fn round(&mut self) -> Duration {
-        let began = Instant::now();
-        for _ in 0..self.times {
-            (self.run)();
-        }
-        let took = began.elapsed();
-        self.least = self.least.min(took.as_secs_f64() / f64::from(self.times));
-        took
-    }
-}
+// ---- lines
 
 // A line of a table: its works are the library's, for each length, and then the Rust's.
 struct Line {
@@ -212,15 +183,7 @@ struct Line {
 
 impl Line {
     fn pass(&mut self) {
-        let began = Instant::now();
-        for _ in 0..ROUNDS {
-            for work in &mut self.works {
-                work.round();
-            }
-            if began.elapsed() > ENOUGH {
-                return;
-            }
-        }
+        TURNS.take(&mut self.works);
     }
 
     fn took(&self, i: usize) -> Option<f64> {
@@ -230,12 +193,7 @@ impl Line {
 
 // ---- inputs
 
-// As many flags as there are lines, all 0.
-fn flags(text: &[u8]) -> Vec<u8> {
-    vec![0; line_starts(text).len()]
-}
-
-// The lines here end in LF.
+// Where each line begins. The lines here end in LF.
 fn line_starts(text: &[u8]) -> Vec<usize> {
     let behind = text.iter().enumerate().filter(|(_, &byte)| byte == b'\n').map(|(i, _)| i + 1);
     std::iter::once(0).chain(behind).collect()
@@ -244,34 +202,6 @@ fn line_starts(text: &[u8]) -> Vec<usize> {
 fn opens(text: &[u8]) -> Vec<usize> {
     (0..text.len()).filter(|&i| text[i] == b'<').collect()
 }
-
-// A unit repeated between two ends, so that there are `length` bytes.
-fn repeated(front: &str, unit: &str, end: &str, length: usize) -> Vec<u8> {
-    let mut text = front.as_bytes().to_vec();
-    text.extend(unit.bytes().cycle().take(length - front.len() - end.len()));
-    text.extend(end.bytes());
-    text
-}
-
-const PROSE: &str = "The door on the second floor stays shut until noon; please take the stairs.\nLifts run as always.\n\n";
-
-const RICH: &str = "Gate <b>4</b> is <!-- not yet --> open: see <a href=\"map\" title='the map'>the map</a>.<br/>
-Ask <i>any</i> of us.
-
-<div class=\"old\">
-closed
-</div>
-
-<!-- to be
-told -->
-";
-
-const TABLE: &str = "<table>\n<tr><td>4</td><td>open</td></tr>\n<tr><td>5</td><td>shut</td></tr>\n</table>\n\n";
-
-const ROW: &str = "Row <tr><td>4</td><td class=\"a\">open</td></tr>\n";
-
-// Names that stand late in the list of those that open a block.
-const LATE: &str = "<ul>\n\n<track>\n\n<title>\n\n";
 
 // A text, and where it is scanned.
 struct Scans {
@@ -330,65 +260,13 @@ fn block_scans() -> Vec<Scans> {
     all
 }
 
-type OfLength = Box<dyn Fn(usize) -> Vec<u8>>;
-
-// What, and the bulletin of a length.
-fn bulletins() -> Vec<(String, OfLength)> {
-    let mut all: Vec<(String, OfLength)> = vec![];
-    let texts = [
-        ("prose", PROSE),
-        ("prose, one line", &PROSE[..PROSE.find('\n').unwrap()]),
-        ("rich in HTML", RICH),
-        ("table of tags, blocks", TABLE),
-        ("table of tags, inline", ROW),
-        ("table of tags, late names", LATE),
-        ("`<b` and a line ending", "<b\n"),
-    ];
-    for (what, unit) in texts {
-        all.push((what.to_string(), Box::new(move |length| repeated("", unit, "", length))));
-    }
-    for unit in ["<?", "<!--", "<![CDATA[", "<!a", "<a b=\"<a b='", "\\<b>", "\\\\<b>"] {
-        all.push(again(unit, "in a paragraph", "x"));
-        all.push(again(unit, "at the front", ""));
-    }
-    all
-}
-
-// A unit again and again, behind what takes it to its place.
-fn again(unit: &'static str, place: &str, front: &'static str) -> (String, OfLength) {
-    (format!("`{unit}`, {place}"), Box::new(move |length| repeated(front, unit, "", length)))
-}
-
-// What is filtered: the same, and the filter's tags, whole and broken.
-fn filtered_bulletins() -> Vec<(String, OfLength)> {
-    let mut all = bulletins();
-    for unit in ["<xmp>", "<xmp", "</", "<title", "<div><", "<xmp/"] {
-        all.push(again(unit, "in a paragraph", "x"));
-        all.push(again(unit, "in a block", "<div>"));
-    }
-    all
-}
-
 // What has none of these tags, to be filtered with no more room than it has bytes: what is shown is then counted first.
-fn counted_bulletins() -> Vec<(String, OfLength)> {
-    let some = bulletins().into_iter().filter(|(what, _)| what == "prose" || what == "table of tags, blocks");
-    some.map(|(what, bulletin)| (format!("{what}, exact room"), bulletin)).collect()
+fn counted_bulletins() -> Vec<Bulletin> {
+    let some = bulletins().into_iter().filter(|bulletin| bulletin.what == "prose" || bulletin.what == "table of tags, blocks");
+    some.map(|bulletin| Bulletin { what: format!("{}, exact room", bulletin.what), ..bulletin }).collect()
 }
 
 // ---- tables
-
-// With a comma before each three digits.
-fn commas(number: f64) -> String {
-    let digits = format!("{number:.0}");
-    let mut text = String::new();
-    for (i, digit) in digits.chars().enumerate() {
-        if i > 0 && (digits.len() - i) % 3 == 0 {
-            text.push(',');
-        }
-        text.push(digit);
-    }
-    text
-}
 
 // Three digits or more.
 fn digits(number: f64) -> String {
@@ -406,15 +284,6 @@ fn megabytes(bytes: usize, seconds: f64) -> f64 {
 // A cell, or a dash where the Rust is not measured.
 fn cell(value: Option<f64>) -> String {
     value.map_or("-".to_string(), digits)
-}
-
-fn head(columns: &[&str]) {
-    println!("\n| {} |", columns.join(" | "));
-    println!("|---{}|", "|--:".repeat(columns.len() - 1));
-}
-
-fn row(cells: &[String]) {
-    println!("| {} |", cells.join(" | "));
 }
 
 type Scan = fn(&[u8], &[u8], usize) -> Piece;
@@ -471,14 +340,14 @@ struct Screens<'a> {
     room: fn(usize) -> usize,
 }
 
-fn screen_lines(screens: &Screens, bulletins: Vec<(String, OfLength)>) -> Vec<Line> {
+fn screen_lines(screens: &Screens, bulletins: Vec<Bulletin>) -> Vec<Line> {
     let mut lines = vec![];
-    for (what, bulletin) in bulletins {
+    for Bulletin { what, of_length } in bulletins {
         let mut works = vec![];
         let mut shown: Vec<Vec<_>> = vec![];
         for (side, &screen) in screens.sides.iter().enumerate() {
             let mut all = vec![];
-            for text in LENGTHS.map(&bulletin) {
+            for text in LENGTHS.map(&of_length) {
                 let flags = flags(&text);
                 let mut out = vec![0; (screens.room)(text.len())];
                 all.push((screen(&text, &flags, &mut out), out.clone()));

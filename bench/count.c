@@ -1,8 +1,8 @@
 /*
  * One call again and again, for bench/count.sh and bench/place.sh: 'count INPUT' scans or withholds 16,000 bytes 200 times, and writes what the answers add up to;
  * 'count INPUT time' does so 100 times, and writes the least time of a call in microseconds. An input that begins with '=' is a unit, to be withheld again and again.
- * With 'filter:' in front of an input it is filtered, with 'standard:' withheld from by the standard. It ends with status 2 where there is no such input, and with 3
- * where the library has no such function.
+ * With 'filter:' in front of an input it is filtered, with 'standard:' withheld from by the standard, and with 'trace:' the trace of its scan is written, which for
+ * what is withheld is that of the block at its front. It ends with status 2 where there is no such input, and with 3 where the library has no such function.
  */
 #include "foringamo.h"
 
@@ -14,9 +14,10 @@
 #pragma weak foringamo_filter
 #pragma weak foringamo_standard_withhold
 
-enum { LENGTH = 16000, FILTERED = LENGTH * 8 / 5, ROUNDS = 200, TIMES = 100, LINE = 73 };
+/* For what is filtered or traced, the room that always suffices (include/foringamo.h). */
+enum { LENGTH = 16000, FILTERED = LENGTH * 8 / 5, TRACED = LENGTH * 28 + 6, ROUNDS = 200, TIMES = 100, LINE = 73 };
 
-static uint8_t text[LENGTH], flags[LENGTH + 1], out[FILTERED];
+static uint8_t text[LENGTH], flags[LENGTH + 1], out[TRACED];
 static size_t lines = 1;
 
 /* A unit again and again. */
@@ -57,6 +58,19 @@ static size_t filters(void)
     return answer.refusal + answer.length;
 }
 
+/* What the answers of traces add up to is not their length, since an archive may have other records. */
+static size_t traces_text(void)
+{
+    foringamo_trace answer = foringamo_inline_trace(text, LENGTH, 0, 0, out, TRACED);
+    return answer.refusal + (answer.length > 0);
+}
+
+static size_t traces_block(void)
+{
+    foringamo_trace answer = foringamo_block_trace(text, LENGTH, flags, lines, 0, out, TRACED);
+    return answer.refusal + (answer.length > 0);
+}
+
 /* A unit again and again between an opening and a closer, with a line ending at each multiple of `line` where that is not 0. */
 static const struct input {
     const char *name, *opening, *unit, *closer;
@@ -77,6 +91,8 @@ static const struct input {
     {"marks", "", "<?", "", 0, withholds},
     {"xmp", "", "<xmp>", "", 0, withholds},
     {"long", "<div>\n", "the stairs are shut until noon\n", "</div>", 0, finds_block},
+    {"remark", "<!--", "the stairs are shut until noon\n", "-->", 0, scans},
+    {"endings", "<?", "\n", "", 0, finds_block},
 };
 
 /* The input of a name, or of a unit behind '='. Its unit is empty where there is none. */
@@ -132,6 +148,7 @@ int main(int count, char **words)
     } others[] = {
         {"filter:", foringamo_filter != NULL, filters},
         {"standard:", foringamo_standard_withhold != NULL, withholds_by_standard},
+        {"trace:", 1, traces_block},
     };
     const char *name = count > 1 ? words[1] : "";
     size_t (*other)(void) = NULL;
@@ -147,6 +164,8 @@ int main(int count, char **words)
     struct input input = named(name);
     if (!*input.unit)
         return 2;
+    if (other == traces_block && input.call == scans)
+        other = traces_text;
     if (other)
         input.call = other;
     fill(&input);
