@@ -13,6 +13,7 @@ use Rattle.lexical.proofs.Cases.{split}
 use Rattle.lexical.proofs.Suffix.{suffix-out, first-in}
 use Rattle.rules.specs.Search.{choose}
 use Rattle.rules.specs.Trace.{Record, eventRecord, lastRecord, refusedRecord, number, recordLength, recordAt, unlessRefused, readTrace}
+use Rattle.rules.proofs.Records.{event-size, last-size}
 use Rattle.trace.specs.Answer.{flawOf}
 
 abbrev wrongKind : ℕ → Bool
@@ -95,19 +96,11 @@ module _ (w : ℕ) where
         let a : at + (1 + w) ≡ at + 1 + w = omega arith in
         record-whole (drop at s) e ∙ rw (head, lt-leb (get_or s at 0) 12 h, drop-drop, get_or-drop, a)
 
-    event-length : get_or s at 0 ≤ 12 → recordLength w (get_or s at 0) ≡ 2 + 3 * w
-    unfolding recordLength
-    event-length h = rw (le-leb (get_or s at 0) 12 h)
-
-    last-length : 12 < get_or s at 0 → recordLength w (get_or s at 0) ≡ 2 + w
-    unfolding recordLength
-    last-length h = rw (lt-leb (get_or s at 0) 12 h)
-
     pub event-fits : get_or s at 0 ≤ 12 → at + (2 + 3 * w) ≤ length s
-    event-fits h = omega (arith, (whole s at e).fits, event-length h)
+    event-fits h = omega (arith, (whole s at e).fits, event-size w (get_or s at 0) h)
 
     pub last-fits : 12 < get_or s at 0 → at + (2 + w) ≤ length s
-    last-fits h = omega (arith, (whole s at e).fits, last-length h)
+    last-fits h = omega (arith, (whole s at e).fits, last-size w (get_or s at 0) h)
 
   -- a record more on the way: with n > 0 to go, one less behind it, or its refusal
   module _ (s : List ℕ) (n : ℕ) where

@@ -11,15 +11,15 @@ pub overflow_mul-value : goal.overflow_mul-value
 overflow_mul-value c = let t = three-bytes (c.args.width - c.loop-i.i) (omega arith) in omega arith
 
 pub overflow_cast-value : goal.overflow_cast-value
-overflow_cast-value c = omega (arith, c.shared_slice_known-1.given (c.args.at + (c.loop-i.i - 1)))
+overflow_cast-value c = omega (arith, c.type_inv.trace (c.args.at + (c.loop-i.i - 1)))
 
 pub overflow_add-value-in-loop-i : goal.overflow_add-value-in-loop-i
 overflow_add-value-in-loop-i c = let t = three-bytes (c.args.width - c.loop-i.i) (omega arith) in
-    omega (arith, c.shared_slice_known-1.given (c.args.at + (c.loop-i.i - 1)))
+    omega (arith, c.type_inv.trace (c.args.at + (c.loop-i.i - 1)))
 
 pub loop-i-preserved : goal.loop-i-preserved
 loop-i-preserved c = let a = c.args in
-    let b : _ = c.shared_slice_known-1.given (a.at + (c.loop-i.i - 1)) in (
+    let b : _ = c.type_inv.trace (a.at + (c.loop-i.i - 1)) in (
       omega arith,
       below-turn a.trace.now a.width c.loop-i.i a.at c.loop-i.value (omega arith) (omega arith) c.loop-i.invariant.1 (omega (arith, b)),
       number-turn a.trace.now a.width c.loop-i.i a.at c.loop-i.value (omega arith) (omega arith) c.loop-i.invariant.2,
