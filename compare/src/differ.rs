@@ -8,9 +8,8 @@
 //! the tag filter, and every refusal; the closer also with the plain rule
 //! (closer.rs). The filter is held against its plain rule (filter.rs) over the
 //! pieces of withholding, which the Rust's scans give (withhold.rs).
-//! Inputs are taken exhaustively over small alphabets (families.rs) and, for
-//! single scans, up to the limit on lengths (long.rs), both the same in every
-//! run, and at random (fragments.rs), N texts from the seed. Where the two differ,
+//! Inputs are taken exhaustively over small alphabets (families.rs) and up to the
+//! limit on lengths (long.rs), both the same in every run, and at random (fragments.rs), N texts from the seed. Where the two differ,
 //! the shortest input found is shown, and the status is 1. The last line is
 //! `N passed, M failed`, one for each kind of comparison.
 
@@ -70,12 +69,14 @@ enum Row {
     WrongTraces,
     WithholdAll,
     WithholdRandom,
+    WithholdLong,
     FilterAll,
     FilterRandom,
+    FilterLong,
     Refusals,
 }
 
-const ROWS: [&str; 13] = [
+const ROWS: [&str; 15] = [
     "inline scans and traces, exhaustive",
     "inline scans and traces, random",
     "inline scans and traces, long texts",
@@ -86,8 +87,10 @@ const ROWS: [&str; 13] = [
     "records of wrong traces, random",
     "withholding, exhaustive",
     "withholding, random",
+    "withholding, long texts",
     "tag filter, exhaustive",
     "tag filter, random",
+    "tag filter, long texts",
     "refusals, random",
 ];
 
@@ -104,6 +107,7 @@ const SCANS: [Row; 6] = [
 /// The rows of what is made of a bulletin's pieces: withholding and the filter.
 const SCREENS_ALL: [Row; 2] = [Row::WithholdAll, Row::FilterAll];
 const SCREENS_RANDOM: [Row; 2] = [Row::WithholdRandom, Row::FilterRandom];
+const SCREENS_LONG: [Row; 2] = [Row::WithholdLong, Row::FilterLong];
 
 /// What one row counts.
 #[derive(Clone, Default)]
@@ -166,7 +170,11 @@ impl Tally {
         self.refused[usize::from(table::NO_ROOM)] += take(&mut self.work.short);
         let scans = take(&mut self.work.scans);
         self.rows[row as usize].scans += match row {
-            Row::WrongTraces | Row::Refusals | Row::FilterAll | Row::FilterRandom => 1,
+            Row::WrongTraces
+            | Row::Refusals
+            | Row::FilterAll
+            | Row::FilterRandom
+            | Row::FilterLong => 1,
             _ => scans,
         };
         let records = &mut self.rows[Row::Records as usize];
@@ -340,8 +348,17 @@ fn family(family: &Family, numbers: Range<u64>, tally: &mut Tally) {
     }
 }
 
+/// A long bulletin.
+fn long_screen(long: &Long, tally: &mut Tally) {
+    let (bulletin, _) = long.text();
+    let flags = long.flags(line_starts(&bulletin).len());
+    tally.input(&SCREENS_LONG);
+    tally.screen(SCREENS_LONG, &bulletin, &flags);
+    tally.refused[usize::from(table::bulletin(&bulletin, &flags))] += 1;
+}
+
 /// A long text, at its construct and at its end.
-fn one_long(long: &Long, tally: &mut Tally) {
+fn long_scans(long: &Long, tally: &mut Tally) {
     let (text, index) = long.text();
     let starts = line_starts(&text);
     if long.kind == Kind::Inline {
@@ -575,7 +592,10 @@ fn main() -> ExitCode {
                     loop {
                         tally.job = next.fetch_add(1, Ordering::Relaxed);
                         match jobs.get(tally.job) {
-                            Some(Job::Long(one)) => one_long(one, &mut tally),
+                            Some(Job::Long(one)) if one.kind == Kind::Withhold => {
+                                long_screen(one, &mut tally);
+                            }
+                            Some(Job::Long(one)) => long_scans(one, &mut tally),
                             Some(Job::Family(one, numbers)) => {
                                 family(&families[*one], numbers.clone(), &mut tally);
                             }
@@ -619,7 +639,7 @@ fn report(tally: &Tally, options: &Options, begun: Instant) -> ExitCode {
     }
     let of_rust: u64 = SCANS
         .iter()
-        .chain(&[Row::WithholdAll, Row::WithholdRandom])
+        .chain(&[Row::WithholdAll, Row::WithholdRandom, Row::WithholdLong])
         .map(|row| tally.rows[*row as usize].scans)
         .sum();
     let numbers: Vec<String> = (1..10)

@@ -1,6 +1,8 @@
-//! Long texts for single scans and their traces, in which the Rust takes linear
-//! time: from 100,000 bytes to one more than the limit, with lines, columns and
-//! indices that two bytes do not hold. They are the same in every run.
+//! Long texts: from 100,000 bytes to one more than the limit, with lines, columns
+//! and indices that two bytes do not hold. They are for single scans and their
+//! traces, in which the Rust takes linear time, and for withholding and the filter,
+//! where it reads as much for each line and each opening: of these there are few.
+//! They are the same in every run.
 
 use crate::families::Kind;
 use crate::table::LIMIT;
@@ -9,6 +11,7 @@ use crate::table::LIMIT;
 const FRONT: usize = 66_000;
 const BEFORE_INLINE: [&[u8]; 4] = [b"", b"a\n", b"\t", b"a\r"];
 const BEFORE_BLOCK: [&[u8]; 4] = [b"", b"a\n", b"\r", b"\r\n"];
+const BEFORE_SCREEN: [&[u8]; 4] = [b"", b"a", b"\t", b"\\"];
 
 /// How many bytes stand behind that, where the text is not about as long as is
 /// allowed.
@@ -46,6 +49,20 @@ const BLOCK: [Construct; 7] = [
     (b"<div>", b"\n\nx"),
     (b"<a>\n", b"\r\n\r\nx"),
 ];
+
+/// The same for bulletins, with more pieces behind; not each opens one where it
+/// stands.
+const SCREEN: [Construct; 8] = [
+    (b"<!-- ", b"--> <b>c\n\n<div>\n<xmp>"),
+    (b"\n<!--", b"-->\na <script> b"),
+    (b"\\<?", b"?> <title>"),
+    (b"\n\n<![CDATA[", b"]]>\n\\<b> \\\\<b>"),
+    (b" <a b='", b"'> <![CDATA[x]]>"),
+    (b"\n<pre>", b"</pre>x\n<!A>"),
+    (b"\n<div>", b"<style>\n\nx</style>"),
+    (b" <![CDx <![CDATA[", b"]]> y"),
+];
+const SCREEN_BODIES: [&[u8]; 3] = [b"x", b"\t", b" \\y-]"];
 
 /// What stands in a construct again and again: one line, one of tabs, short lines
 /// with each ending, and all of these with the first bytes of closers.
@@ -158,5 +175,6 @@ pub fn all() -> Vec<Long> {
     all.extend(list(Kind::Inline, BEFORE_INLINE).grid(&INLINE, &BODIES));
     let bodies = [&BODIES[..], &ENDINGS].concat();
     all.extend(list(Kind::Block, BEFORE_BLOCK).grid(&BLOCK, &bodies));
+    all.extend(list(Kind::Withhold, BEFORE_SCREEN).grid(&SCREEN, &SCREEN_BODIES));
     all
 }
