@@ -7,7 +7,7 @@ use Prim.Native.Nat.{ℕ, zero, suc, ◌+◌, ◌-◌, ◌<◌, ◌≤◌}
 use native.Mathlib.Omega.{arith}
 use lib.Dec.{eqb, ltb}
 use lib.ListN.{length, take, drop, length-drop}
-use borrow.Author.Tests.{ltb-true, ltb-false, not-false}
+use borrow.Author.Tests.{eqb-false, ltb-true, ltb-false, not-false}
 use Rattle.lexical.specs.Text.{limit}
 use Rattle.lexical.specs.Line.{isLineStart, lineEndings}
 use Rattle.lexical.proofs.Cases.{split}
@@ -15,11 +15,12 @@ use Rattle.lexical.proofs.Ending.{ends-out}
 use Rattle.rules.specs.Reading.{crate as ofCrate}
 use Rattle.rules.specs.Refusal.{tooLong, wrongCount, wrongFlag, blockRefusal}
 use Rattle.rules.specs.Lines.{Line}
-use Rattle.rules.specs.Block.{kindOf, extentOf, inLast, stopAfter}
+use Rattle.rules.specs.Block.{kindOf, closes, extentOf, inLast, stopAfter}
 use Rattle.rules.specs.Scan.{Found, foundBlock, noBlock, refusedBlock, blockOf, linesAt, blockAt, blockScan}
+use Rattle.rules.specs.declared.Rules.{Rules}
 use Rattle.rules.proofs.Refusals.{not-met, given-passes, given-is, refused-by, refused-some}
 use Rattle.trace.proofs.Stops.{Between}
-use Rattle.rules.proofs.LineLaws.{sizes, lines-size}
+use Rattle.rules.proofs.LineLaws.{sizes, lines-size, stop-from, stop-is}
 
 -- ---- the bytes of the lines from an index on
 size-from : (text flags : List ℕ) (i : ℕ) → sizes (linesAt text flags i) ≡ length text - i
@@ -27,13 +28,14 @@ unfolding linesAt
 size-from text flags i = lines-size (drop (lineEndings (take i text)) flags) (drop i text) ∙ length-drop i text
 
 -- ---- the stop
-stop-from : (i n : ℕ) (ls : List Line) → i ≤ stopAfter i n ls
-unfolding inLast
-stop-from i zero ls = omega arith
-stop-from i (suc n) [] = omega arith
-stop-from i (suc zero) (l ∷ ls) = omega arith
-stop-from i (suc (suc n)) (l ∷ []) = omega arith
-stop-from i (suc (suc n)) (l ∷ m ∷ ls) = let h = stop-from (i + length l.content + length m.lead) (suc n) (m ∷ ls) in omega arith
+-- a block takes the whole of its first line
+first-taken : (i n : ℕ) (l : Line) (ls : List Line) → 1 ≤ n → i + length l.content ≤ stopAfter i n (l ∷ ls)
+first-taken i zero l ls h = absurd (omega arith)
+first-taken i (suc n) l ls h = omega (arith, stop-is n i l ls, stop-from (i + length l.content) n ls)
+
+extent-some : (ρ : Rules) (k : ℕ) (l : Line) (ls : List Line) → 1 ≤ (extentOf ρ k l ls).lines
+unfolding extentOf
+extent-some ρ k l ls = split (closes ρ k l.content) (λ t. rw t (omega arith)) (λ t. rw t (omega arith))
 
 stop-to : (i n : ℕ) (l : Line) (ls : List Line) → stopAfter i n (l ∷ ls) ≤ i + length l.content + sizes ls
 unfolding inLast
@@ -42,16 +44,27 @@ stop-to i (suc zero) l ls = omega arith
 stop-to i (suc (suc n)) l [] = omega arith
 stop-to i (suc (suc n)) l (m ∷ ls) = let h = stop-to (i + length l.content + length m.lead) (suc n) m ls in omega arith
 
+-- a block whose first line is l, which begins at i
+pub record Begun (i stop : ℕ) (l : Line) (ls : List Line) : Type 0 where
+  pub opens : kindOf ofCrate l ≡ 0 → ⊥
+  pub first : i + length l.content ≤ stop
+  pub last : stop ≤ i + length l.content + sizes ls
+
+pub begun : (i : ℕ) (l : Line) (ls : List Line) (b : Found) → blockOf ofCrate i (l ∷ ls) ≡ foundBlock b → Begun i b.stop l ls
+unfolding blockOf
+begun i l ls b f =
+    let k = kindOf ofCrate l in
+    let n = (extentOf ofCrate k l ls).lines in
+    split (eqb k 0) (λ t. let g = rw t at f in let z : ◌≡◌ {A = ℕ} 0 1 = cc in absurd (omega arith))
+    (λ t.
+    let g = rw t at f in
+    let s : stopAfter i n (l ∷ ls) ≡ b.stop = cc in
+    record { opens = eqb-false k 0 t; first = omega (arith, s, first-taken i n l ls (extent-some ofCrate k l ls)); last = omega (arith, s, stop-to i n l ls) })
+
 found-between : (i n : ℕ) (ls : List Line) (b : Found) → sizes ls ≡ n - i → i ≤ n → blockOf ofCrate i ls ≡ foundBlock b → Between i b.stop n
 unfolding blockOf
 found-between i n [] b e h f = let z : ◌≡◌ {A = ℕ} 0 1 = cc in absurd (omega arith)
-found-between i n (l ∷ ls) b e h f =
-    split (eqb (kindOf ofCrate l) 0)
-    (λ t. let g = rw t at f in let z : ◌≡◌ {A = ℕ} 0 1 = cc in absurd (omega arith))
-    (λ t.
-    let g = rw t at f in
-    let s : stopAfter i (extentOf ofCrate (kindOf ofCrate l) l ls).lines (l ∷ ls) ≡ b.stop = cc in
-    record { from = omega (arith, s, stop-from i (extentOf ofCrate (kindOf ofCrate l) l ls).lines (l ∷ ls)); to = omega (arith, s, stop-to i (extentOf ofCrate (kindOf ofCrate l) l ls).lines l ls) })
+found-between i n (l ∷ ls) b e h f = let g = begun i l ls b f in record { from = omega (arith, g.first); to = omega (arith, g.last) }
 
 -- ---- what was checked
 start-within : (s : List ℕ) (i : ℕ) → isLineStart s i ≡ true → i ≤ length s

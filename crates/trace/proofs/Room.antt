@@ -3,12 +3,12 @@
 use mathlib.Core.Path.{◌≡◌, refl, sym, ◌∙◌, ap}
 use mathlib.Core.Bool.{false, not}
 use mathlib.Core.List.{List, [], ◌∷◌}
-use Prim.Native.Nat.{ℕ, zero, suc, ◌+◌, ◌*◌, ◌-◌, ◌<◌, ◌≤◌}
+use Prim.Native.Nat.{ℕ, suc, ◌+◌, ◌*◌, ◌-◌, ◌<◌, ◌≤◌}
 use native.Mathlib.Omega.{arith}
 use lib.Dec.{eqb, ltb, leb}
 use lib.ListN.{length, get_or, take, drop, length-drop}
 use lib.Seq.{length-take-le}
-use borrow.Author.Tests.{eqb-true, eqb-false, ltb-true, ltb-false}
+use borrow.Author.Tests.{eqb-true, ltb-true, ltb-false}
 use Rattle.lexical.specs.Text.{byte, run}
 use Rattle.lexical.specs.Byte.{isSpaceOrTab, isLineEndingByte, isWhitespace}
 use Rattle.lexical.specs.Line.{lineEnding, lineEndings, lineLength}
@@ -18,13 +18,13 @@ use Rattle.rules.specs.Reading.{crate as ofCrate}
 use Rattle.rules.specs.Search.{somewhere}
 use Rattle.rules.specs.Refusal.{blankFollows}
 use Rattle.rules.specs.Lines.{Line, line, flagged}
-use Rattle.rules.specs.Block.{indentation, closes, kindAt, kindOf, extentOf, stopAfter}
+use Rattle.rules.specs.Block.{indentation, kindAt, kindOf}
 use Rattle.rules.specs.Scan.{InlineAnswer, foundInline, noInline, refusedInline, inlineScan, Found, BlockAnswer, foundBlock, noBlock, refusedBlock, blockOf, blockAt, linesAt, blockScan}
 use Rattle.rules.specs.Trace.{wide, lastRecord, inlineTrace, blockTrace, inlineRecords, blockRecords, traceBytes, flowExit}
 use Rattle.rules.specs.ReadBack.{RoomSuffices}
 use Rattle.rules.specs.declared.Rules.{Rules}
 use Rattle.rules.proofs.Cut.{behind, lineFrom, content-length, run-content, run-within, space-apart}
-use Rattle.rules.proofs.LineLaws.{contentFrom, first-line, stop-from, stop-is}
+use Rattle.rules.proofs.LineLaws.{contentFrom, first-line}
 use Rattle.rules.proofs.Fronts.{run-front, run-least, lastOr, last-front}
 use Rattle.rules.proofs.Blanks.{no-blank-front, not-blank, some-data}
 use Rattle.rules.proofs.Records.{last-bytes, one-record}
@@ -33,7 +33,7 @@ use Rattle.trace.specs.Walk.{textPiece, flowPiece}
 use Rattle.trace.proofs.Outputs.{trace-length}
 use Rattle.trace.proofs.Pieces.{text-trace, flow-trace}
 use Rattle.trace.proofs.Stops.{admitted, found-passes, found-at}
-use Rattle.trace.proofs.BlockStops.{block-admitted, block-between, block-found-passes, block-found-at}
+use Rattle.trace.proofs.BlockStops.{begun, block-admitted, block-between, block-found-passes, block-found-at}
 use Rattle.trace.proofs.Ends.{Opened, opened}
 use Rattle.trace.proofs.Counts.{text-piece-most, flow-piece-most}
 
@@ -113,42 +113,22 @@ kind-long ρ l h =
     (λ t. omega (arith, ltb-false (length s) 2 t, length-drop (indentation l.content) l.content)))
     (λ d. absurd (h (rw d)))
 
--- a block has a line at least
-extent-some : (ρ : Rules) (k : ℕ) (l : Line) (ls : List Line) → 1 ≤ (extentOf ρ k l ls).lines
-unfolding extentOf
-extent-some ρ k l ls = split (closes ρ k l.content) (λ t. rw t (omega arith)) (λ t. rw t (omega arith))
-
--- and so the whole of its first
-first-taken : (i n : ℕ) (l : Line) (ls : List Line) → 1 ≤ n → i + length l.content ≤ stopAfter i n (l ∷ ls)
-first-taken i zero l ls h = absurd (omega arith)
-first-taken i (suc n) l ls h = omega (arith, stop-is n i l ls, stop-from (i + length l.content) n ls)
-
 -- the content of the first line of a block, which begins at i
-record Begun (content : List ℕ) (i stop : ℕ) : Type 0 where
+record FirstLine (content : List ℕ) (i stop : ℕ) : Type 0 where
   pub long : indentation content + 2 ≤ length content
   pub to : i + length content ≤ stop
 
-begun : (i : ℕ) (l : Line) (ls : List Line) (b : Found) → blockOf ofCrate i (l ∷ ls) ≡ foundBlock b → Begun l.content i b.stop
-unfolding blockOf
-begun i l ls b f =
-    let k = kindOf ofCrate l in
-    let n = (extentOf ofCrate k l ls).lines in
-    split (eqb k 0) (λ t. let g = rw t at f in let z : ◌≡◌ {A = ℕ} 0 1 = cc in absurd (omega arith))
-    (λ t.
-    let g = rw t at f in
-    let s : stopAfter i n (l ∷ ls) ≡ b.stop = cc in
-    record { long = kind-long ofCrate l (eqb-false k 0 t); to = omega (arith, s, first-taken i n l ls (extent-some ofCrate k l ls)) })
-
 module _ (text flags : List ℕ) (i : ℕ) where
-  begun-at : (b : Found) → blockAt ofCrate text flags i ≡ foundBlock b → Begun (contentFrom text i) i b.stop
+  begun-at : (b : Found) → blockAt ofCrate text flags i ≡ foundBlock b → FirstLine (contentFrom text i) i b.stop
   unfolding blockAt linesAt
   begun-at b f =
       let n = lineEndings (take i text) in
-      begun i (line (get_or (drop n flags) 0 0) [] (contentFrom text i)) (flagged (drop 1 (drop n flags)) (behind (drop (i + lineLength (drop i text)) text))) b
-      (sym (ap (blockOf ofCrate i) (first-line text flags i n)) ∙ f)
+      let l = line (get_or (drop n flags) 0 0) [] (contentFrom text i) in
+      let g = begun i l (flagged (drop 1 (drop n flags)) (behind (drop (i + lineLength (drop i text)) text))) b (sym (ap (blockOf ofCrate i) (first-line text flags i n)) ∙ f) in
+      record { long = kind-long ofCrate l g.opens; to = g.first }
 
   -- the first line of the front is that of the text
-  flow-most : (stop exit : ℕ) → Begun (contentFrom text i) i stop → i ≤ length text → stop ≤ length text
+  flow-most : (stop exit : ℕ) → FirstLine (contentFrom text i) i stop → i ≤ length text → stop ≤ length text
       → length (flowPiece (take stop text) i exit) ≤ 2 * length text
   flow-most stop exit b h w =
       let s = drop i text in
