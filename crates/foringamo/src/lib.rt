@@ -4,6 +4,7 @@
 #![tactic(auto)]
 
 pub mod block;
+pub mod conversion;
 pub mod filter;
 pub mod inline;
 pub mod lines;

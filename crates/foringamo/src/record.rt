@@ -3,7 +3,7 @@ ghost use Rattle.std.specs.Prelude.{◌≡◌};
 ghost use Rattle.rules.specs.Trace.{wide, readTrace};
 ghost use Rattle.foringamo.specs.Result.{recordResult};
 
-use trace::reader::{Record, read_trace};
+use records::reader::{Record, read_trace};
 
 // A record of a trace.
 #[repr(C)]

@@ -13,8 +13,6 @@ pub mod Cut
 pub mod LineLaws
 pub mod Fronts
 pub mod Blanks
-pub mod Fields
-pub mod Records
 pub mod Events
 pub mod BlockLaws
 pub mod Witness

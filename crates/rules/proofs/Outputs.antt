@@ -1,9 +1,12 @@
 -- Laws of an entry that writes: what it reads is refused, the buffer is shorter than the output, or all of it is written.
-use mathlib.Core.Path.{◌≡◌, ap}
+use mathlib.Core.Path.{◌≡◌, ◌∙◌, ap}
 use mathlib.Core.List.{List}
 use Prim.Native.Nat.{ℕ, ◌<◌, ◌≤◌}
+use native.Mathlib.Omega.{arith}
 use lib.ListN.{length}
 use borrow.Author.Tests.{ne_eqb}
+use Rattle.lexical.specs.Buffer.{Written as Stored}
+use Rattle.lexical.proofs.Stores.{from-front}
 use Rattle.rules.specs.Refusal.{outputRefusal}
 use Rattle.rules.specs.Withhold.{written}
 use Rattle.rules.specs.Output.{wrote, writing, Writes}
@@ -26,3 +29,8 @@ module _ (output old : List ℕ) where
 
   pub fits : {r : Output} {new : List ℕ} → length output ≤ length old → Writes 0 output old r new → Writes (outputRefusal 0 (length old) output) output old r new
   fits h w = rw (output-fits (length old) output h) w
+
+  -- what is written from the front of the buffer
+  pub is-written : {new : List ℕ} (n : ℕ) → n ≡ length output → n ≤ length old → Stored old 0 output new → Writes (outputRefusal 0 (length old) output) output old (Written n) new
+  unfolding written
+  is-written n e h w = let f : length output ≤ length old = omega arith in fits f (all-written n e (w.is ∙ from-front output old f))

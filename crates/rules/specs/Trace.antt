@@ -8,6 +8,7 @@ use Rattle.lexical.specs.Line.{lineEnding}
 use Rattle.lexical.specs.Point.{pointAt}
 use Rattle.lexical.specs.declared.event.Point.{Point}
 use Rattle.rules.specs.Search.{choose}
+use Rattle.rules.specs.Refusal.{check, refusal}
 use Rattle.rules.specs.Lines.{Line, cutLines}
 use Rattle.rules.specs.Block.{indentation}
 use Rattle.rules.specs.Scan.{InlineAnswer, foundInline, noInline, refusedInline, BlockAnswer, foundBlock, noBlock, refusedBlock}
@@ -131,6 +132,10 @@ blockRecords text start (refusedBlock n) = []
 abbrev pub wide : ℕ
 wide = 4
 
+-- in old traces they have two: 02, Ask 8
+abbrev pub narrow : ℕ
+narrow = 2
+
 -- a number in w bytes, low first
 unfoldable pub field : ℕ → ℕ → List ℕ
 field zero n = []
@@ -163,15 +168,18 @@ number (suc w) s = get_or s 0 0 + 256 * number w (drop 1 s)
 unfoldable pub recordLength : ℕ → ℕ → ℕ
 recordLength w kind = choose (leb kind 12) (λ _. 2 + 3 * w) (λ _. 2 + w)
 
+-- the refusal of the record in front of s, or 0: there is none, its kind is wrong, or it is cut off
+unfoldable pub recordRefusal : ℕ → List ℕ → ℕ
+recordRefusal w s =
+    refusal (check (eqb (length s) 0) 9 ∷ check (eqb (first s) 0 || ltb 14 (first s)) 8 ∷ check (ltb (length s) (recordLength w (first s))) 9 ∷ [])
+
 -- the record in front of s, with fields of w bytes
 unfoldable pub recordAt : ℕ → List ℕ → Record
 recordAt w s =
-    choose (eqb (length s) 0) (λ _. refusedRecord 9)
-    (λ _. choose (eqb (first s) 0 || ltb 14 (first s)) (λ _. refusedRecord 8)
-    (λ _. choose (ltb (length s) (recordLength w (first s))) (λ _. refusedRecord 9)
+    choose (not (eqb (recordRefusal w s) 0)) (λ _. refusedRecord (recordRefusal w s))
     (λ _. choose (leb (first s) 12)
     (λ _. eventRecord (first s) (number w (drop 1 s)) (number w (drop (1 + w) s)) (number w (drop (1 + 2 * w) s)) (get_or s (1 + 3 * w) 0))
-    (λ _. lastRecord (first s) (number w (drop 1 s)) (get_or s (1 + w) 0)))))
+    (λ _. lastRecord (first s) (number w (drop 1 s)) (get_or s (1 + w) 0)))
 
 abbrev pub unlessRefused : Record → Record → Record
 unlessRefused (eventRecord k l c i v) r = r

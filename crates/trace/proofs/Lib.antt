@@ -1,6 +1,3 @@
-pub mod Numbers
-pub mod Flaws
-pub mod Stores
 pub mod Marks
 pub mod Walks
 pub mod Turns

@@ -12,13 +12,19 @@ use Rattle.lexical.proofs.Moves.{point-on}
 use Rattle.lexical.proofs.Bounds.{Fit, point-fits}
 use Rattle.rules.specs.Trace.{wide, Event, event, pair, lastRecord, atPoint, eventRecords, recordBytes, traceBytes}
 use Rattle.lexical.specs.Buffer.{Written}
-use Rattle.trace.specs.Writing.{eventLength, eventBytes, endedBytes}
+use Rattle.trace.specs.Writing.{eventLength, lastLength, eventBytes, endedBytes}
 use Rattle.trace.specs.Walk.{Ready, Marked}
 use Rattle.trace.specs.declared.events.Pen.{Pen}
-use Rattle.lexical.proofs.Stores.{then, nothing-written}
-use Rattle.rules.proofs.Records.{records-append, bytes-append, event-bytes, one-record}
+use Rattle.lexical.proofs.Stores.{then, nothing-written, same}
+use Rattle.records.specs.Writing.{placed}
+use Rattle.records.proofs.Stores.{placed-whole}
+use Rattle.records.proofs.Records.{bytes-append, event-bytes, last-bytes, one-record}
 
--- ---- bytes of events
+-- ---- records and bytes of events
+records-append : (text : List ℕ) (a b : List Event) → eventRecords text (a ++ b) ≡ eventRecords text a ++ eventRecords text b
+records-append text [] b = refl
+records-append text (e ∷ a) b = ap (λ rs. atPoint e.kind (pointAt text e.index) ∷ rs) (records-append text a b)
+
 pub events-length : (text : List ℕ) (es : List Event) → length (eventBytes text es) ≡ eventLength * length es
 unfolding traceBytes
 events-length text [] = refl
@@ -57,11 +63,14 @@ module _ {text : List ℕ} {pen : Pen} {index : ℕ} (ready : Ready text pen ind
   pub vs-small : p.vs < 256
   vs-small = let z : p.vs ≡ 0 = ap (λ q. q.vs) e ∙ (standing text index ready.small ready.within).vs-is in omega arith
 
--- an event is marked
-pub marked-one : {text old new : List ℕ} {pen : Pen} {kind index : ℕ} (p : Point) → Ready text pen index → p ≡ pointAt text index
-    → Written old pen.at (recordBytes wide (atPoint kind p)) new → Marked text pen (event kind index ∷ []) old new (record { point = p; at = pen.at + eventLength })
-marked-one {text} {old} {new} {pen} {kind} {index} p ready e w = record {
-  bytes = subst (λ b. Written old pen.at b new) (ap (λ q. recordBytes wide (atPoint kind q)) e ∙ sym (one-event text kind index)) w;
+-- an event is marked, where there is room for its record
+pub marked-one : {text old new : List ℕ} {pen : Pen} {kind index : ℕ} (p : Point) → Ready text pen index → p ≡ pointAt text index → pen.at + eventLength ≤ length old
+    → Written old pen.at (placed (length old) pen.at (recordBytes wide (atPoint kind p))) new
+    → Marked text pen (event kind index ∷ []) old new (record { point = p; at = pen.at + eventLength })
+marked-one {text} {old} {new} {pen} {kind} {index} p ready e room w = record {
+  bytes =
+      subst (λ b. Written old pen.at b new) (ap (λ q. recordBytes wide (atPoint kind q)) e ∙ sym (one-event text kind index))
+      (placed-whole (recordBytes wide (atPoint kind p)) (omega (arith, room, event-bytes wide kind p.line p.column p.index p.vs)) w);
   at-is = refl;
   stands = e ∙ ap (pointAt text) (sym (index-is ready p e));
 }
@@ -92,8 +101,12 @@ marked-pair {text} {old} {mid} {new} {pen} {pen'} {r} kind from to v w = and-the
 pub ready-on : {text old new : List ℕ} {pen r : Pen} {es : List Event} {j : ℕ} → Marked text pen es old new r → length text ≤ limit → r.point.index ≤ j → j ≤ length text → Ready text r j
 ready-on m s f w = record { small = s; stands = m.stands; forward = f; within = w }
 
--- a last record behind the events
+-- a last record behind the events, where there is room for all
 pub and-last : {text old mid new : List ℕ} {pen r : Pen} {es : List Event} (kind stop n : ℕ) → Marked text pen es old mid r
-    → Written mid r.at (recordBytes wide (lastRecord kind stop n)) new → Written old pen.at (endedBytes text es kind stop n) new
-and-last {text} {old} {mid} {new} {pen} {r} {es} kind stop n m w =
-    subst (λ b. Written old pen.at b new) (sym (ended text es kind stop n)) (then (m.at-is ∙ ap (λ k. pen.at + k) (sym (events-length text es))) m.bytes w)
+    → pen.at + eventLength * length es + lastLength ≤ length old → Written mid r.at (placed (length mid) r.at (recordBytes wide (lastRecord kind stop n))) new
+    → Written old pen.at (endedBytes text es kind stop n) new
+and-last {text} {old} {mid} {new} {pen} {r} {es} kind stop n m room w =
+    let last = recordBytes wide (lastRecord kind stop n) in
+    subst (λ b. Written old pen.at b new) (sym (ended text es kind stop n))
+    (then (m.at-is ∙ ap (λ k. pen.at + k) (sym (events-length text es))) m.bytes
+    (placed-whole last (omega (arith, m.at-is, same m.bytes, last-bytes wide kind stop n)) w))

@@ -1,34 +1,26 @@
 -- Laws of an entry that traces, by the answer of its scan: the refusal of the scan, or what is made of its trace.
-use mathlib.Core.Path.{◌≡◌, ◌∙◌, ap}
+use mathlib.Core.Path.{◌≡◌, ap}
 use mathlib.Core.List.{List}
-use Prim.Native.Nat.{ℕ, ◌+◌, ◌*◌, ◌≤◌}
+use Prim.Native.Nat.{ℕ, ◌+◌, ◌*◌}
 use native.Mathlib.Omega.{arith}
 use lib.ListN.{length, length-append}
 use Rattle.rules.specs.Reading.{crate as ofCrate}
 use Rattle.rules.specs.Scan.{InlineAnswer, foundInline, noInline, refusedInline, inlineScan, Found, BlockAnswer, foundBlock, noBlock, refusedBlock, blockScan}
 use Rattle.rules.specs.Refusal.{inlineRefusal, blockRefusal, outputRefusal}
 use Rattle.rules.specs.Trace.{wide, Event, lastRecord, inlineRecords, blockRecords, recordBytes, inlineTrace, blockTrace}
-use Rattle.rules.specs.Withhold.{written}
 use Rattle.rules.specs.Output.{outputOf, Writes}
 use Rattle.rules.specs.declared.Output.{Output}
-use Rattle.rules.specs.declared.Output.TheVariants.{Written as WrittenBytes, Refused}
-use Rattle.rules.proofs.Outputs.{read-refused, all-written, fits}
+use Rattle.rules.specs.declared.Output.TheVariants.{Refused}
+use Rattle.rules.proofs.Outputs.{read-refused}
 use Rattle.trace.specs.Answer.{inlineTraceRefusal, inlineTraced, inlineBuffer, blockTraceRefusal, blockTraced, blockBuffer}
-use Rattle.lexical.specs.Buffer.{Written}
 use Rattle.trace.specs.Writing.{eventLength, lastLength, eventBytes, endedBytes, flowTrace}
-use Rattle.lexical.proofs.Stores.{from-front}
-use Rattle.rules.proofs.Records.{last-bytes, one-record}
+use Rattle.records.proofs.Records.{last-bytes, one-record}
 use Rattle.trace.proofs.Marks.{events-length, ended}
 
 -- ---- lengths
 pub trace-length : (text : List ℕ) (es : List Event) (kind stop n : ℕ) → length (endedBytes text es kind stop n) ≡ eventLength * length es + lastLength
 trace-length text es kind stop n =
     omega (arith, ap length (ended text es kind stop n), length-append (eventBytes text es) (recordBytes wide (lastRecord kind stop n)), events-length text es, last-bytes wide kind stop n)
-
--- ---- a trace that is written
-pub is-traced : (trace old : List ℕ) {new : List ℕ} (n : ℕ) → n ≡ length trace → n ≤ length old → Written old 0 trace new → Writes (outputRefusal 0 (length old) trace) trace old (WrittenBytes n) new
-unfolding written
-is-traced trace old n e h w = let f : length trace ≤ length old = omega arith in fits trace old f (all-written trace old n e (w.is ∙ from-front trace old f))
 
 -- ---- by the answer of the inline scan
 module _ (text : List ℕ) (i k : ℕ) (old : List ℕ) where

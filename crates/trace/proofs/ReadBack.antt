@@ -15,7 +15,8 @@ use Rattle.rules.specs.Scan.{InlineAnswer, foundInline, noInline, refusedInline,
 use Rattle.rules.specs.Trace.{wide, Event, Record, eventRecord, lastRecord, refusedRecord, atPoint, taken, eventRecords, inlineRecords, flowRecords, blockRecords, traceBytes}
 use Rattle.rules.specs.ReadBack.{Fits, ReadsBack, TracesReadBack}
 use Rattle.rules.proofs.Events.{taken-size, Placed, AllPlaced, text-placed, flow-placed}
-use Rattle.rules.proofs.Records.{Sound, read-written}
+use Rattle.records.proofs.Records.{Sound}
+use Rattle.records.proofs.Walks.{read-written}
 use Rattle.trace.proofs.Stops.{admitted, stop-between, found-passes, found-at, none-passes}
 use Rattle.trace.proofs.BlockStops.{block-admitted, block-between, block-found-passes, block-found-at, block-none-passes}
 use Rattle.trace.proofs.Empty.{exit-to}

@@ -27,7 +27,7 @@ use Rattle.rules.proofs.Cut.{behind, lineFrom, content-length, run-content, run-
 use Rattle.rules.proofs.LineLaws.{contentFrom, first-line}
 use Rattle.rules.proofs.Fronts.{run-front, run-least, lastOr, last-front}
 use Rattle.rules.proofs.Blanks.{no-blank-front, not-blank, some-data}
-use Rattle.rules.proofs.Records.{last-bytes, one-record}
+use Rattle.records.proofs.Records.{last-bytes, one-record}
 use Rattle.flow.proofs.OpenMeans.{nothing-kind, not-opened, nothing-opened}
 use Rattle.trace.specs.Walk.{textPiece, flowPiece}
 use Rattle.trace.proofs.Outputs.{trace-length}

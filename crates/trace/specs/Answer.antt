@@ -1,21 +1,11 @@
 -- What the answers of this crate say, by 01's numbers and values for each case.
-use Rattle.std.specs.Prelude.{ℕ, ◌||◌, List, eqb, ltb, length}
-use Rattle.lexical.specs.Text.{first}
+use Rattle.std.specs.Prelude.{ℕ, List, length}
 use Rattle.rules.specs.Reading.{crate as ofCrate}
-use Rattle.rules.specs.Search.{choose}
 use Rattle.rules.specs.Refusal.{inlineRefusal, blockRefusal, outputRefusal}
 use Rattle.rules.specs.Scan.{inlineScan, blockScan}
 use Rattle.rules.specs.Withhold.{written}
 use Rattle.rules.specs.Output.{Wrote, writing}
-use Rattle.rules.specs.Trace.{Record as Read, eventRecord, lastRecord, refusedRecord, recordLength, inlineTrace, blockTrace}
-use Rattle.trace.specs.declared.reader.Record.{Record}
-use Rattle.trace.specs.declared.reader.Record.TheVariants.{Event, Last, Refused}
-
--- kind, line, column, index and vs; kind, stop, and carry or block kind; the number of a refusal
-abbrev pub recordOf : Record → Read
-recordOf (Event kind line column index vs) = eventRecord kind line column index vs
-recordOf (Last kind stop value) = lastRecord kind stop value
-recordOf (Refused refusal) = refusedRecord refusal
+use Rattle.rules.specs.Trace.{inlineTrace, blockTrace}
 
 -- of an inline scan with all eight changes: the scan's refusals in order, then 7 where the buffer, whose length is room, is shorter than the trace
 unfoldable pub inlineTraceRefusal : List ℕ → ℕ → ℕ → ℕ → ℕ
@@ -37,10 +27,3 @@ blockTraced text flags i room = writing (blockTraceRefusal text flags i room) (b
 
 unfoldable pub blockBuffer : List ℕ → List ℕ → ℕ → List ℕ → List ℕ
 blockBuffer text flags i old = written (blockTraceRefusal text flags i (length old)) (blockTrace text i (blockScan ofCrate text flags i)) old
-
--- the refusal of the record in front of s, or 0
-unfoldable pub flawOf : ℕ → List ℕ → ℕ
-flawOf w s =
-    choose (eqb (length s) 0) (λ _. 9)
-    (λ _. choose (eqb (first s) 0 || ltb 14 (first s)) (λ _. 8)
-    (λ _. choose (ltb (length s) (recordLength w (first s))) (λ _. 9) (λ _. 0)))

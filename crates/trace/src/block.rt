@@ -11,7 +11,6 @@ ghost use Rattle.trace.specs.Walk.{flowPiece, penStart, Marked};
 
 use crate::events::{HTML_FLOW_DATA, Pen, count_lines, mark, mark_pair, mark_rest, mark_some};
 use crate::tracer::trace_last;
-use crate::writer::{EVENT_LENGTH, LAST_LENGTH, write_last};
 use flow::html_flow::kind_number;
 use flow::partial_space_or_tab::inside;
 use flow::scan::{Block, block_scan};
@@ -19,6 +18,8 @@ use lexical::byte::is_line_ending_byte;
 use lexical::event::Point;
 use lexical::line::{line_end, line_ending};
 use lexical::slice::from_indices;
+use records::reader::Record;
+use records::writer::{EVENT_LENGTH, LAST_LENGTH, write_record};
 use rules::{NO_ROOM, Output};
 
 // 01, Writes: the kind of a block's enter, and of the last record of its trace.
@@ -103,7 +104,12 @@ fn write_flow(
     ensures { Written out.old 0 (endedBytes text.now (flowPiece front.now index exit) 14 stop kind) out.new }
 {
     let pen = mark_flow(text, front, index, exit, out);
-    write_last(out, pen.at, LAST_FLOW, stop, kind);
+    let last = Record::Last {
+        kind: LAST_FLOW,
+        stop,
+        value: kind,
+    };
+    write_record(out, pen.at, last);
 }
 
 // The trace of a block that was found, or the refusal of it.

@@ -6,9 +6,10 @@ ghost use Rattle.rules.proofs.Cut.{lineFrom, lineTo};
 ghost use Rattle.trace.specs.Writing.{eventLength};
 ghost use Rattle.trace.specs.Walk.{textLine, flowLine, lineEvents, restEvents, Ready, Marked};
 
-use crate::writer::{EVENT_LENGTH, write_event};
 use lexical::event::Point;
 use lexical::line::{line_end, line_ending, space_or_tab_end};
+use records::reader::Record;
+use records::writer::{EVENT_LENGTH, write_record};
 
 // 01, Traces: the kinds of the enters; an exit is one more.
 pub(crate) const HTML_FLOW_DATA: u8 = 3;
@@ -35,7 +36,14 @@ pub(crate) fn mark(text: &[u8], pen: Pen, kind: u8, index: usize, out: &mut [u8]
 {
     let at = pen.at;
     let point = pen.point.move_to(text, index);
-    write_event(out, at, kind, point);
+    let record = Record::Event {
+        kind,
+        line: point.line,
+        column: point.column,
+        index: point.index,
+        vs: point.vs as u8,
+    };
+    write_record(out, at, record);
     Pen {
         point,
         at: at + EVENT_LENGTH,

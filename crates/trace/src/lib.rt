@@ -3,6 +3,4 @@
 
 pub mod block;
 mod events;
-pub mod reader;
 pub mod tracer;
-mod writer;

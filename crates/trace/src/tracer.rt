@@ -11,12 +11,13 @@ ghost use Rattle.trace.specs.Writing.{eventLength, lastLength, endedBytes};
 ghost use Rattle.trace.specs.Walk.{textPiece, penStart, Marked};
 
 use crate::events::{HTML_TEXT_DATA, Pen, count_lines, mark, mark_pair, mark_rest};
-use crate::writer::{EVENT_LENGTH, LAST_LENGTH, write_last};
 use html::scan::inline_scan;
 use html::tokenizer::Inline;
 use lexical::event::Point;
 use lexical::line::line_end;
 use lexical::slice::from_indices;
+use records::reader::Record;
+use records::writer::{EVENT_LENGTH, LAST_LENGTH, write_record};
 use rules::{NO_ROOM, Output};
 
 // 01, Writes: the kind of an inline piece's enter, and of the last record of its trace.
@@ -57,7 +58,12 @@ fn write_text(text: &[u8], front: &[u8], index: usize, stop: usize, carry: u8, o
     ensures { Written out.old 0 (endedBytes text.now (textPiece front.now index stop) 13 stop carry) out.new }
 {
     let pen = mark_text(text, front, index, stop, out);
-    write_last(out, pen.at, LAST_TEXT, stop, carry);
+    let last = Record::Last {
+        kind: LAST_TEXT,
+        stop,
+        value: carry,
+    };
+    write_record(out, pen.at, last);
 }
 
 // The trace of a piece, or the refusal of it.
@@ -81,7 +87,12 @@ pub(crate) fn trace_last(kind: u8, index: usize, value: u8, out: &mut [u8]) -> O
     if out.len() < LAST_LENGTH {
         return Output::Refused { refusal: NO_ROOM };
     }
-    write_last(out, 0, kind, index, value);
+    let last = Record::Last {
+        kind,
+        stop: index,
+        value,
+    };
+    write_record(out, 0, last);
     Output::Written {
         length: LAST_LENGTH,
     }

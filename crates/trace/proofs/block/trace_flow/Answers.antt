@@ -5,8 +5,7 @@ use lib.ListN.{length}
 use Rattle.trace.specs.Walk.{flowPiece}
 use Rattle.trace.specs.Writing.{endedBytes}
 use Rattle.lexical.proofs.Stores.{written-as}
-use Rattle.rules.proofs.Outputs.{not-written}
-use Rattle.trace.proofs.Outputs.{is-traced}
+use Rattle.rules.proofs.Outputs.{not-written, is-written}
 use Rattle.trace.proofs.Empty.{exit-from, exit-to}
 use Rattle.trace.proofs.Pieces.{front-length, flow-trace, flow-size, flow-trace-length}
 use Rattle.trace.proofs.block.trace_flow.Goals as goal
@@ -42,4 +41,4 @@ returns c = let a = c.args in
     let F = c.from_indices-front.result.now in
     let z = flow-trace-length a.text.now F a.index a.kind a.stop a.closed pre.1 pre.2 c.from_indices-front.ensures n c.flow_length-length.ensures in
     let t = flow-trace a.text.now F a.index a.kind a.stop a.closed pre.1 pre.2 c.from_indices-front.ensures in
-    is-traced _ _ n z c.if-out-length.false (written-as _ (t ∙ ap (λ e. endedBytes a.text.now (flowPiece F a.index e) 14 a.stop a.kind) (sym c.flow_exit-exit.ensures)) c.write_flow.ensures)
+    is-written _ _ n z c.if-out-length.false (written-as _ (t ∙ ap (λ e. endedBytes a.text.now (flowPiece F a.index e) 14 a.stop a.kind) (sym c.flow_exit-exit.ensures)) c.write_flow.ensures)

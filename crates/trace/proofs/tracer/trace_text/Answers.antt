@@ -1,8 +1,7 @@
 -- The length that was counted is that of the trace, so the check against the buffer is that of 7, and behind it there is room.
 use native.Mathlib.Omega.{arith}
 use Rattle.lexical.proofs.Stores.{written-as}
-use Rattle.rules.proofs.Outputs.{not-written}
-use Rattle.trace.proofs.Outputs.{is-traced}
+use Rattle.rules.proofs.Outputs.{not-written, is-written}
 use Rattle.trace.proofs.Pieces.{front-length, text-trace, text-size, text-trace-length}
 use Rattle.trace.proofs.tracer.trace_text.Goals as goal
 
@@ -34,4 +33,4 @@ returns c = let a = c.args in
     let F = c.from_indices-front.result.now in
     let z = text-trace-length a.text.now F a.index a.stop a.carry pre.1 pre.2 c.from_indices-front.ensures n c.text_length-length.ensures in
     let t = text-trace a.text.now F a.index a.stop a.carry pre.1 pre.2 c.from_indices-front.ensures in
-    is-traced _ _ n z c.if-out-length.false (written-as _ t c.write_text.ensures)
+    is-written _ _ n z c.if-out-length.false (written-as _ t c.write_text.ensures)

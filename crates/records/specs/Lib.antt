@@ -1,0 +1,5 @@
+pub mod Records
+pub mod Conversion
+pub mod Answer
+pub mod Writing
+pub mod Rows
