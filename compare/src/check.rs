@@ -2,6 +2,7 @@
 //! against what the library says.
 
 use crate::closer;
+use crate::conversion::{self, Way};
 use crate::filter;
 use crate::hex::to_hex;
 use crate::library;
@@ -21,8 +22,14 @@ const SHOWN: usize = 4_000;
 const ALL_READ: usize = 64;
 const READ_OF_LONG: usize = 8;
 
-/// What differs where a record does.
+/// The rooms of a buffer with which a call is tried that is refused whatever the
+/// room.
+const ROOMS: [usize; 2] = [0, 40];
+
+/// What differs where a record does, and with what begins what differs where the
+/// conversion of a scan's trace does.
 pub const RECORD: &str = "the record read";
+pub const CONVERSION: &str = "the trace taken across: ";
 
 /// Where the two differ: what was asked, the Rust's answer, the library's.
 pub struct Difference {
@@ -44,6 +51,9 @@ pub struct Work {
     /// Records of them that were asked for, and that were given.
     pub records: u64,
     pub given: u64,
+    /// Conversions of them, and those that were not refused.
+    pub conversions: u64,
+    pub converted: u64,
     /// Calls with a buffer that is one byte short.
     pub short: u64,
     out: Vec<u8>,
@@ -132,14 +142,15 @@ fn writes<T: Copy + Debug + PartialEq>(
     Ok(())
 }
 
-/// A call that is refused whatever the room, and changes nothing.
+/// A call that is refused with each of some rooms, and changes nothing.
 fn refuses<T: Debug + PartialEq + Copy>(
     out: &mut Vec<u8>,
+    rooms: &[usize],
     refused: T,
     mut call: impl FnMut(&mut [u8]) -> T,
 ) -> Result<(), Difference> {
-    for room in [0, 40] {
-        let (given, after) = lend(out, room, &mut call);
+    for room in rooms {
+        let (given, after) = lend(out, *room, &mut call);
         same("the refusal with an output buffer", refused, given)?;
         unchanged("the buffer after a refusal", after)?;
     }
@@ -163,7 +174,7 @@ pub fn inline(text: &[u8], index: usize, carry: u8, work: &mut Work) -> Outcome 
             stop: 0,
         };
         same("the inline scan", wanted, given)?;
-        refuses(&mut work.out, nothing_written(refusal), trace)?;
+        refuses(&mut work.out, &ROOMS, nothing_written(refusal), trace)?;
         return Ok(false);
     }
 
@@ -195,7 +206,7 @@ pub fn block(bulletin: &[u8], flags: &[u8], index: usize, work: &mut Work) -> Ou
             closer: 0,
         };
         same("the block scan", wanted, given)?;
-        refuses(&mut work.out, nothing_written(refusal), trace)?;
+        refuses(&mut work.out, &ROOMS, nothing_written(refusal), trace)?;
         return Ok(false);
     }
 
@@ -220,7 +231,7 @@ pub fn block(bulletin: &[u8], flags: &[u8], index: usize, work: &mut Work) -> Ou
     Ok(found)
 }
 
-/// The trace of a scan, and each record of it.
+/// The trace of a scan, each record of it, and the trace taken narrow and back.
 fn traced(
     trace: &[u8],
     call: impl FnMut(&mut [u8]) -> library::Written,
@@ -244,7 +255,63 @@ fn traced(
         work.records += 1;
         work.given += u64::from(read(trace, number)?);
     }
-    Ok(())
+    across(trace, work).map_err(|difference| Difference {
+        what: format!("{CONVERSION}{}", difference.what),
+        ..difference
+    })
+}
+
+/// The trace of a scan taken narrow and, where it fits, wide again.
+fn across(trace: &[u8], work: &mut Work) -> Result<(), Difference> {
+    match conversion::converted(trace, Way::Narrow) {
+        Ok(narrow) => {
+            work.conversions += 2;
+            work.converted += 2;
+            converts(trace, Way::Narrow, &narrow, 0, work)?;
+            converts(&narrow, Way::Widen, trace, 0, work)
+        }
+        Err(refusal) => {
+            work.conversions += 1;
+            same("the only refusal", table::NOT_NARROW, refusal)?;
+            convert(trace, Way::Narrow, trace.len(), work)?;
+            Ok(())
+        }
+    }
+}
+
+/// A conversion that gives some bytes.
+fn converts(
+    trace: &[u8],
+    way: Way,
+    bytes: &[u8],
+    other: usize,
+    work: &mut Work,
+) -> Result<(), Difference> {
+    let length = bytes.len();
+    let wanted = library::Written { refusal: 0, length };
+    let refused = nothing_written(table::NO_ROOM);
+    let call = |out: &mut [u8]| library::convert(way, trace, out);
+    writes(work, bytes, other, wanted, refused, call)
+}
+
+/// A conversion of any bytes; also with no room, and with some other room.
+pub fn convert(trace: &[u8], way: Way, other: usize, work: &mut Work) -> Outcome {
+    let call = |out: &mut [u8]| library::convert(way, trace, out);
+    match conversion::converted(trace, way) {
+        Err(refusal) => {
+            // The last would do for all: no record has more than twice its bytes.
+            let rooms = [0, other, 2 * trace.len()];
+            refuses(&mut work.out, &rooms, nothing_written(refusal), call)?;
+            Ok(false)
+        }
+        Ok(bytes) => {
+            converts(trace, way, &bytes, other, work)?;
+            let rooms = [0, other.min(bytes.len() - 1)];
+            let refused = nothing_written(table::NO_ROOM);
+            refuses(&mut work.out, &rooms, refused, call)?;
+            Ok(true)
+        }
+    }
 }
 
 /// A record of a trace.
@@ -312,7 +379,7 @@ pub fn withhold(screen: &Screen, work: &mut Work) -> Outcome {
     };
     let call = |out: &mut [u8]| library::withhold(screen.bulletin, screen.flags, out);
     if screen.refusal != 0 {
-        refuses(&mut work.out, nothing(screen.refusal), call)?;
+        refuses(&mut work.out, &ROOMS, nothing(screen.refusal), call)?;
         return Ok(false);
     }
 
@@ -332,7 +399,7 @@ pub fn filter(screen: &Screen, work: &mut Work) -> Outcome {
     let bulletin = screen.bulletin;
     let call = |out: &mut [u8]| library::filter(bulletin, screen.flags, out);
     if screen.refusal != 0 {
-        refuses(&mut work.out, nothing_written(screen.refusal), call)?;
+        refuses(&mut work.out, &ROOMS, nothing_written(screen.refusal), call)?;
         return Ok(false);
     }
 

@@ -4,17 +4,20 @@
 //!     differ [--seed N] [--count N | --long] [--threads N]
 //!
 //! Compared are the answers of both scans with kind, stop, closer and carry,
-//! all trace bytes, each record read back (of a long trace a few), withholding,
-//! the tag filter, and every refusal; the closer also with the plain rule
-//! (closer.rs). The filter is held against its plain rule (filter.rs) over the
-//! pieces of withholding, which the Rust's scans give (withhold.rs).
+//! all trace bytes, each record read back (of a long trace a few), each trace taken
+//! narrow and wide again, withholding, the tag filter, and every refusal; the
+//! closer also with the plain rule (closer.rs). The filter is held against its plain
+//! rule (filter.rs) over the pieces of withholding, which the Rust's scans give
+//! (withhold.rs), and the conversion of traces against its own (conversion.rs).
 //! Inputs are taken exhaustively over small alphabets (families.rs) and up to the
-//! limit on lengths (long.rs), both the same in every run, and at random (fragments.rs), N texts from the seed. Where the two differ,
-//! the shortest input found is shown, and the status is 1. The last line is
-//! `N passed, M failed`, one for each kind of comparison.
+//! limit on lengths (long.rs), both the same in every run, and at random, from the
+//! seed N texts (fragments.rs) and N byte strings that look like traces (made.rs).
+//! Where the two differ, the shortest input found is shown, and the status is 1.
+//! The last line is `N passed, M failed`, one for each kind of comparison.
 
 mod check;
 mod closer;
+mod conversion;
 mod families;
 mod filter;
 mod fragments;
@@ -23,11 +26,13 @@ mod generator;
 mod hex;
 mod library;
 mod long;
+mod made;
 mod shrink;
 mod table;
 mod withhold;
 
 use check::{Outcome, Screen, Work};
+use conversion::Way;
 use families::{Family, Kind};
 use generator::Random;
 use long::Long;
@@ -52,6 +57,9 @@ const AT_LIMIT: usize = 2_000;
 /// A text of fewer bytes is short: all is asked of it.
 const SHORT: usize = 1_000;
 
+/// How many numbers a refusal may have, with 0, which is none.
+const NUMBERS: usize = 12;
+
 /// How many inputs a job takes.
 const OF_FAMILY: u64 = 512;
 const AT_RANDOM: u64 = 256;
@@ -66,7 +74,9 @@ enum Row {
     BlockRandom,
     BlockLong,
     Records,
+    Conversions,
     WrongTraces,
+    MadeTraces,
     WithholdAll,
     WithholdRandom,
     WithholdLong,
@@ -76,7 +86,7 @@ enum Row {
     Refusals,
 }
 
-const ROWS: [&str; 15] = [
+const ROWS: [&str; 17] = [
     "inline scans and traces, exhaustive",
     "inline scans and traces, random",
     "inline scans and traces, long texts",
@@ -84,7 +94,9 @@ const ROWS: [&str; 15] = [
     "block scans and traces, random",
     "block scans and traces, long texts",
     "records of these traces",
+    "conversions of these traces",
     "records of wrong traces, random",
+    "conversions of traces, random",
     "withholding, exhaustive",
     "withholding, random",
     "withholding, long texts",
@@ -124,7 +136,7 @@ struct Count {
 struct Tally {
     rows: Vec<Count>,
     /// How often each number was refused.
-    refused: [u64; 10],
+    refused: [u64; NUMBERS],
     visited: Visited,
     work: Work,
     job: usize,
@@ -134,7 +146,7 @@ impl Tally {
     fn new() -> Tally {
         Tally {
             rows: vec![Count::default(); ROWS.len()],
-            refused: [0; 10],
+            refused: [0; NUMBERS],
             visited: take_visited(),
             work: Work::default(),
             job: 0,
@@ -153,11 +165,12 @@ impl Tally {
         match outcome {
             Ok(found) => self.rows[row as usize].found += u64::from(found),
             Err(difference) => {
-                // A record read back differs in a row of its own.
-                let row = if SCANS.contains(&row) && difference.what == check::RECORD {
-                    Row::Records
-                } else {
-                    row
+                // A record read back, or a trace taken across, differs in a row of
+                // its own.
+                let row = match difference.what {
+                    what if SCANS.contains(&row) && what == check::RECORD => Row::Records,
+                    what if what.starts_with(check::CONVERSION) => Row::Conversions,
+                    _ => row,
                 };
                 let count = &mut self.rows[row as usize];
                 count.differences += 1;
@@ -171,16 +184,22 @@ impl Tally {
         let scans = take(&mut self.work.scans);
         self.rows[row as usize].scans += match row {
             Row::WrongTraces
+            | Row::MadeTraces
             | Row::Refusals
             | Row::FilterAll
             | Row::FilterRandom
             | Row::FilterLong => 1,
             _ => scans,
         };
+        let traces = take(&mut self.work.traces);
         let records = &mut self.rows[Row::Records as usize];
-        records.inputs += take(&mut self.work.traces);
+        records.inputs += traces;
         records.scans += take(&mut self.work.records);
         records.found += take(&mut self.work.given);
+        let conversions = &mut self.rows[Row::Conversions as usize];
+        conversions.inputs += traces;
+        conversions.scans += take(&mut self.work.conversions);
+        conversions.found += take(&mut self.work.converted);
     }
 
     fn inline(&mut self, row: Row, text: &[u8], index: usize, carry: u8) {
@@ -238,6 +257,17 @@ impl Tally {
         });
     }
 
+    fn convert(&mut self, row: Row, trace: &[u8], way: Way, room: usize) {
+        let outcome = check::convert(trace, way, room, &mut self.work);
+        self.count(row, outcome, || Ask {
+            kind: Kind::Convert(way),
+            bytes: trace.to_vec(),
+            flags: vec![],
+            index: room,
+            carry: 0,
+        });
+    }
+
     fn add(&mut self, other: Tally) {
         for (mine, theirs) in self.rows.iter_mut().zip(other.rows) {
             mine.inputs += theirs.inputs;
@@ -266,6 +296,8 @@ enum Job {
     Family(usize, Range<u64>),
     /// So many random texts, from a seed.
     Random(u64, u64),
+    /// So many byte strings that look like traces, from a seed.
+    Made(u64, u64),
 }
 
 fn jobs(families: &[Family], seed: u64, count: u64) -> Vec<Job> {
@@ -278,14 +310,16 @@ fn jobs(families: &[Family], seed: u64, count: u64) -> Vec<Job> {
             from = to;
         }
     }
-    let mut left = count;
-    while left > 0 {
-        let size = left.min(AT_RANDOM);
-        let own = seed
-            .wrapping_mul(1 << 32)
-            .wrapping_add(jobs.len() as u64 + 1);
-        jobs.push(Job::Random(own, size));
-        left -= size;
+    for of_kind in [Job::Random, Job::Made] {
+        let mut left = count;
+        while left > 0 {
+            let size = left.min(AT_RANDOM);
+            let own = seed
+                .wrapping_mul(1 << 32)
+                .wrapping_add(jobs.len() as u64 + 1);
+            jobs.push(of_kind(own, size));
+            left -= size;
+        }
     }
     jobs
 }
@@ -343,7 +377,9 @@ fn family(family: &Family, numbers: Range<u64>, tally: &mut Tally) {
                     tally.screen(SCREENS_ALL, &text, &flags);
                 }
             }
-            Kind::Filter | Kind::Read => unreachable!("no family is of this kind"),
+            Kind::Filter | Kind::Read | Kind::Convert(_) => {
+                unreachable!("no family is of this kind")
+            }
         }
     }
 }
@@ -474,6 +510,23 @@ fn wrong_trace(random: &mut Random, text: &[u8], flags: &[u8], inline: &[u8], ta
     }
 }
 
+/// Byte strings that look like traces, taken both ways.
+fn made(seed: u64, count: u64, tally: &mut Tally) {
+    let random = &mut Random::new(seed);
+    let row = Row::MadeTraces;
+    for _ in 0..count {
+        let width = random.one(&[conversion::NARROW, conversion::WIDE]);
+        let trace = made::trace(random, width);
+        tally.input(&[row]);
+        for way in conversion::WAYS {
+            let room = random.below(2 * trace.len() + 4);
+            let refusal = conversion::converted(&trace, way).err().unwrap_or(0);
+            tally.refused[usize::from(refusal)] += 1;
+            tally.convert(row, &trace, way, room);
+        }
+    }
+}
+
 /// An input that one or more rows of 01's table may refuse.
 fn refusal(random: &mut Random, text: &[u8], tally: &mut Tally) {
     let mut text = text.to_vec();
@@ -600,6 +653,7 @@ fn main() -> ExitCode {
                                 family(&families[*one], numbers.clone(), &mut tally);
                             }
                             Some(Job::Random(seed, count)) => at_random(*seed, *count, &mut tally),
+                            Some(Job::Made(seed, count)) => made(*seed, *count, &mut tally),
                             None => break,
                         }
                     }
@@ -642,7 +696,7 @@ fn report(tally: &Tally, options: &Options, begun: Instant) -> ExitCode {
         .chain(&[Row::WithholdAll, Row::WithholdRandom, Row::WithholdLong])
         .map(|row| tally.rows[*row as usize].scans)
         .sum();
-    let numbers: Vec<String> = (1..10)
+    let numbers: Vec<String> = (1..NUMBERS)
         .map(|number| format!("{number}: {}", tally.refused[number]))
         .collect();
     println!("refused by number: {}", numbers.join(", "));

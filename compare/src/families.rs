@@ -1,6 +1,7 @@
 //! Inputs taken exhaustively. A family is all texts that have one of some
 //! strings at each of a few places.
 
+use crate::conversion::Way;
 use crate::filter;
 use crate::fragments;
 use crate::table;
@@ -15,6 +16,7 @@ pub enum Kind {
     Withhold,
     Filter,
     Read,
+    Convert(Way),
 }
 
 pub struct Family {

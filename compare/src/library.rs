@@ -1,5 +1,7 @@
 //! The library's C interface.
 
+use crate::conversion::Way;
+
 /// The name of a block that has none.
 pub const NO_NAME: u8 = 255;
 
@@ -24,7 +26,7 @@ pub struct Inline {
     pub stop: usize,
 }
 
-/// What a trace or the filter wrote.
+/// What a trace, a conversion or the filter wrote.
 #[repr(C)]
 #[derive(Clone, Copy, Debug, Eq, PartialEq)]
 pub struct Written {
@@ -79,6 +81,18 @@ extern "C" {
         out_len: usize,
     ) -> Written;
     fn foringamo_read_trace(trace: *const u8, trace_len: usize, number: usize) -> Record;
+    fn foringamo_widen_trace(
+        trace: *const u8,
+        trace_len: usize,
+        out: *mut u8,
+        out_len: usize,
+    ) -> Written;
+    fn foringamo_narrow_trace(
+        trace: *const u8,
+        trace_len: usize,
+        out: *mut u8,
+        out_len: usize,
+    ) -> Written;
     fn foringamo_withhold(
         bulletin: *const u8,
         bulletin_len: usize,
@@ -144,6 +158,14 @@ pub fn inline_trace(text: &[u8], index: usize, carry: u8, out: &mut [u8]) -> Wri
 
 pub fn read_trace(trace: &[u8], number: usize) -> Record {
     unsafe { foringamo_read_trace(trace.as_ptr(), trace.len(), number) }
+}
+
+pub fn convert(way: Way, trace: &[u8], out: &mut [u8]) -> Written {
+    let call = match way {
+        Way::Widen => foringamo_widen_trace,
+        Way::Narrow => foringamo_narrow_trace,
+    };
+    unsafe { call(trace.as_ptr(), trace.len(), out.as_mut_ptr(), out.len()) }
 }
 
 pub fn withhold(bulletin: &[u8], flags: &[u8], out: &mut [u8]) -> Shown {

@@ -7,10 +7,13 @@
 //! state of the Rust and a class of byte that no kept scan with the same outcome
 //! has reached, or has an answer of a new shape; in the end those that the others
 //! make needless are dropped. Refusals are kept where a new set of 01's
-//! conditions applies, and a few scans have stops that two bytes do not hold. What
-//! is covered is told. The form of a case and of an answer stands in
+//! conditions applies, and a few scans have stops that two bytes do not hold. With
+//! each trace goes whether it comes back from narrow (conversion.rs). What is
+//! covered is told. The form of a case and of an answer stands in
 //! crates/cases/src/run.rt.
 
+#[allow(dead_code)]
+mod conversion;
 #[allow(dead_code)]
 mod families;
 #[allow(dead_code)]
@@ -22,6 +25,7 @@ mod generator;
 mod hex;
 mod table;
 
+use conversion::Way;
 use families::Kind;
 use generator::Random;
 use hex::to_hex;
@@ -84,21 +88,29 @@ fn shape(events: &[Ev], stop: usize) -> (Vec<u8>, bool) {
     (kinds, far)
 }
 
+/// What the program says of a trace taken narrow and wide again.
+fn said_of_conversion(trace: &[u8]) -> String {
+    match conversion::converted(trace, Way::Narrow) {
+        Err(refusal) => format!("refused {refusal}"),
+        Ok(_) => "back".to_string(),
+    }
+}
+
 /// Room for a trace: exact, now and then with two bytes to spare or one short.
 /// Then what the program writes of the trace and the buffer.
 fn traced(trace: &[u8], number: usize) -> (usize, String) {
     let length = trace.len();
-    match number % 16 {
+    let spare = match number % 16 {
         7 => {
             let bytes = OLD.repeat(length - 1);
-            (length - 1, format!("refused {} {bytes}", table::NO_ROOM))
+            return (length - 1, format!("refused {} {bytes}", table::NO_ROOM));
         }
-        11 => {
-            let bytes = to_hex(trace) + &OLD.repeat(2);
-            (length + 2, format!("traced {length} {bytes}"))
-        }
-        _ => (length, format!("traced {length} {}", to_hex(trace))),
-    }
+        11 => 2,
+        _ => 0,
+    };
+    let bytes = to_hex(trace) + &OLD.repeat(spare);
+    let said = said_of_conversion(trace);
+    (length + spare, format!("traced {length} {bytes} {said}"))
 }
 
 /// What the program says of a record.
@@ -378,9 +390,10 @@ impl Recorder {
             let trace = answer.trace();
             let room = trace.len();
             self.keep(vec![feature(("far", length))], |_| {
+                let (bytes, said) = (to_hex(&trace), said_of_conversion(&trace));
                 (
                     format!("{LONG_INLINE}{length:06x}01{room:06x}00{length:06x}{byte:02x}"),
-                    format!("none {} traced {room} {}", answer.carry, to_hex(&trace)),
+                    format!("none {} traced {room} {bytes} {said}", answer.carry),
                 )
             });
         }
@@ -479,7 +492,7 @@ fn main() -> ExitCode {
     let mut asks = String::new();
     let mut said = String::new();
     let mut kinds: HashMap<char, usize> = HashMap::new();
-    let mut refused: HashMap<char, usize> = HashMap::new();
+    let mut refused: HashMap<usize, usize> = HashMap::new();
     for case in &recorder.kept {
         asks += &case.ask;
         asks.push('\n');
@@ -487,10 +500,10 @@ fn main() -> ExitCode {
         said.push('\n');
         let letter = case.ask.chars().next().expect("a case has a letter");
         *kinds.entry(letter.to_ascii_lowercase()).or_default() += 1;
-        if let Some((_, number)) = case.answer.split_once("refused ") {
-            *refused
-                .entry(number.chars().next().expect("a number"))
-                .or_default() += 1;
+        if let Some((_, behind)) = case.answer.split_once("refused ") {
+            let number = behind.split(' ').next().expect("there is a first part");
+            let number = number.parse().expect("a number");
+            *refused.entry(number).or_default() += 1;
         }
     }
     for (file, text) in [(cases, asks), (answers, said)] {

@@ -1,6 +1,7 @@
 //! An input that differs, and the shortest one found by making it smaller.
 
 use crate::check::{self, Difference, Outcome, Screen, Work};
+use crate::conversion::Way;
 use crate::families::Kind;
 use crate::fragments::LONGEST;
 use crate::hex::to_hex;
@@ -9,6 +10,12 @@ use std::time::{Duration, Instant};
 
 /// How long an input is made smaller.
 const PATIENCE: Duration = Duration::from_secs(20);
+
+/// How long a record is, of events and the last, narrow and wide.
+const RECORD_LENGTHS: [usize; 4] = [8, 14, 4, 6];
+
+/// From a trace of fewer bytes so many are deleted at each place in turn.
+const SHORT: usize = 1_000;
 
 /// So many bytes are shown of each end of an input that is longer than a random
 /// text.
@@ -29,7 +36,7 @@ pub struct Ask {
     pub kind: Kind,
     pub bytes: Vec<u8>,
     pub flags: Vec<u8>,
-    /// The index, or the number of a record.
+    /// The index, the number of a record, or the room of a buffer.
     pub index: usize,
     pub carry: u8,
 }
@@ -42,7 +49,12 @@ impl Ask {
             Kind::Withhold => check::withhold(&self.screen(work), work),
             Kind::Filter => check::filter(&self.screen(work), work),
             Kind::Read => check::read(&self.bytes, self.index),
+            Kind::Convert(way) => check::convert(&self.bytes, way, self.index, work),
         }
+    }
+
+    fn is_of_trace(&self) -> bool {
+        matches!(self.kind, Kind::Read | Kind::Convert(_))
     }
 
     fn screen(&self, work: &mut Work) -> Screen<'_> {
@@ -67,10 +79,12 @@ impl Ask {
             Kind::Withhold => "withholding",
             Kind::Filter => "tag filter",
             Kind::Read => "trace reading",
+            Kind::Convert(Way::Widen) => "narrow trace to wide",
+            Kind::Convert(Way::Narrow) => "wide trace to narrow",
         };
         let hexadecimal = shown(&self.bytes, to_hex);
         let mut text = format!("{name}, {} bytes: {hexadecimal}", self.bytes.len());
-        if self.kind != Kind::Read {
+        if !self.is_of_trace() {
             let escaped = shown(&self.bytes, |part| part.escape_ascii().to_string());
             text += &format!("\n  as text \"{escaped}\"");
         }
@@ -80,6 +94,7 @@ impl Ask {
             Kind::Block => format!("\n  flags {flags}, index {}", self.index),
             Kind::Withhold | Kind::Filter => format!("\n  flags {flags}"),
             Kind::Read => format!("\n  record {}", self.index),
+            Kind::Convert(_) => format!("\n  other room {}", self.index),
         };
         text
     }
@@ -88,7 +103,7 @@ impl Ask {
     fn without(&self, from: usize, to: usize) -> Ask {
         let mut small = self.clone();
         small.bytes.drain(from..to);
-        if self.kind != Kind::Read {
+        if !self.is_of_trace() {
             if self.index >= to {
                 small.index -= to - from;
             } else if self.index > from {
@@ -112,9 +127,16 @@ impl Ask {
         small
     }
 
-    /// Smaller by something else than a byte.
+    /// Smaller by something else than a byte, or by a record.
     fn simpler(&self) -> Vec<Ask> {
         let mut all = vec![];
+        if self.is_of_trace() && self.bytes.len() < SHORT {
+            for length in RECORD_LENGTHS {
+                for to in length..=self.bytes.len() {
+                    all.push(self.without(to - length, to));
+                }
+            }
+        }
         for at in 0..self.flags.len().min(64) {
             let mut small = self.clone();
             small.flags.remove(at);

@@ -9,6 +9,9 @@ pub const LIMIT: usize = 1_000_000;
 /// The refusal of an output buffer.
 pub const NO_ROOM: u8 = 7;
 
+/// 02, Ask 8: the refusal of a trace that has a field which two bytes do not hold.
+pub const NOT_NARROW: u8 = 11;
+
 /// The refusal of a bulletin and its flags.
 pub fn bulletin(bulletin: &[u8], flags: &[u8]) -> u8 {
     if bulletin.len() > LIMIT {

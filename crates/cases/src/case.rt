@@ -17,7 +17,19 @@ const FLAGS_AT: usize = 7;
 const BYTE_AT: usize = 3;
 
 // What an output buffer holds before.
-pub const FILL: u8 = 0xee;
+const FILL: u8 = 0xee;
+
+// An output buffer of a room.
+pub fn output_buffer(alloc: Global, room: usize) -> Result<Vec<u8>, AllocError>
+    ensures { IfOk result (λ buffer. buffer.items ≡ replicate room FILL) }
+{
+    vec![in alloc; FILL; room]
+}
+
+// Whether a part of an output buffer is as it was.
+pub fn is_as_it_was(part: &[u8]) -> bool {
+    part.iter().all(|byte| *byte == FILL)
+}
 
 // What a case asks about: a text, its flags, an index, and the room of an output buffer.
 #[derive(Drop)]
@@ -35,7 +47,7 @@ impl Case {
         match letter {
             b'n' => Case::as_it_stands(alloc, fields),
             b'w' | b'W' | b'g' => Case::with_room(alloc, fields),
-            b'I' | b'B' | b'e' | b's' | b'l' => Case::in_hexadecimal(alloc, asked),
+            b'I' | b'B' | b'e' | b'x' | b'X' | b's' | b'l' => Case::in_hexadecimal(alloc, asked),
             b'S' | b'L' => Case::of_one_byte(alloc, asked),
             _ => Case::in_digits(alloc, fields),
         }
@@ -109,6 +121,6 @@ impl Case {
     pub fn buffer(&self, alloc: Global) -> Result<Vec<u8>, AllocError>
         ensures { IfOk result (λ buffer. buffer.items ≡ replicate self.now.room FILL) }
     {
-        vec![in alloc; FILL; self.room]
+        output_buffer(alloc, self.room)
     }
 }

@@ -2,6 +2,7 @@
 #![tactic(auto)]
 
 mod case;
+mod conversions;
 mod escape;
 mod hex;
 mod lines;

@@ -33,15 +33,17 @@
 //     I    the inline trace into a buffer of that room (traces.rt)
 //     B    the block trace likewise (traces.rt)
 //     e    the record of a trace whose number is the index (traces.rt)
-//     s    the inline scan, and its trace (recorded.rt)
-//     l    the block scan, and its trace (recorded.rt)
+//     x    a narrow trace, taken wide into a buffer of that room (conversions.rt)
+//     X    a wide trace, taken narrow likewise (conversions.rt)
+//     s    the inline scan, its trace, and whether that comes back from narrow (recorded.rt)
+//     l    the block scan likewise (recorded.rt)
 //     S, L the same; the text is a length of three bytes and a byte, which comes again and again (recorded.rt)
 //
 // What is missing in a line is empty or 0. A new kind takes a letter, an arm of `answer` (and in another form than `INDEX FLAGS TEXT` its letter in `Case::new`), and
 // a function in the file of its topic.
 use crate::case::Case;
 use crate::scans::Part;
-use crate::{lines, readers, recorded, scans, screens, traces};
+use crate::{conversions, lines, readers, recorded, scans, screens, traces};
 use rules::{crate_rules, standard_rules};
 use std::alloc::Global;
 use std::io;
@@ -75,6 +77,8 @@ fn answer(alloc: Global, out: &mut impl Write, letter: u8, case: &Case) -> io::R
         b'I' => traces::inline(alloc, out, case),
         b'B' => traces::block(alloc, out, case),
         b'e' => traces::record(out, case),
+        b'x' => conversions::widened(alloc, out, case),
+        b'X' => conversions::narrowed(alloc, out, case),
         b's' | b'S' => recorded::inline(alloc, out, case),
         b'l' | b'L' => recorded::block(alloc, out, case),
         _ => unknown(out),

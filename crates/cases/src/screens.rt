@@ -1,5 +1,5 @@
 // Cases of withholding and of the tag filter. The text is the bulletin.
-use crate::case::{Case, FILL};
+use crate::case::{Case, is_as_it_was};
 use lexical::slice::from_indices;
 use rules::Output;
 use screen::withhold::{Withheld, standard_withhold, withhold};
@@ -10,8 +10,7 @@ use tagfilter::filter::filter;
 
 // `same` where the output buffer is as it was, from an index on, else `changed`.
 fn show_same(out: &mut impl Write, buffer: &[u8], from: usize) -> io::Result<()> {
-    let rest = from_indices(buffer, from, buffer.len());
-    if rest.iter().all(|byte| *byte == FILL) {
+    if is_as_it_was(from_indices(buffer, from, buffer.len())) {
         write!(out, "same ")
     } else {
         write!(out, "changed ")

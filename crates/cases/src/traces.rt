@@ -1,15 +1,15 @@
 // Cases of traces, written and read.
 use crate::case::Case;
+use records::reader::{Record, read_trace};
 use rules::Output;
 use std::alloc::Global;
 use std::io;
 use std::io::Write;
 use trace::block::block_trace;
-use trace::reader::{Record, read_trace};
 use trace::tracer::inline_trace;
 
 // `traced LENGTH` or `refused NUMBER`, and the buffer, two hexadecimal digits for each byte.
-fn show_trace(out: &mut impl Write, answer: Output, buffer: &[u8]) -> io::Result<()> {
+pub fn show_trace(out: &mut impl Write, answer: Output, buffer: &[u8]) -> io::Result<()> {
     match answer {
         Output::Written { length } => write!(out, "traced {length} ")?,
         Output::Refused { refusal } => write!(out, "refused {refusal} ")?,

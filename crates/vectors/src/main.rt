@@ -41,6 +41,11 @@
 // bulletin, behind a blank line, CR, CR LF, LF, a word and a piece; before the other forms; what breaks a run; backslashes inside of pieces, and pieces inside of a
 // tag that is not tried; and block openings. 56 of the tag filter (`g`), runs in a paragraph and in blocks. The answers are those of a model that was made for them, of
 // regular expressions and a count of the backslashes back to the paragraph's start or the last piece.
+//
+// 217 of old traces, for 02, Ask 8: 87 taken wide (`x`) and 130 taken narrow (`X`). The trace of `<b>`, and others of one record to thirteen; 65,535 in each field, and
+// in one alone 65,536 and more; traces with no final record, with two, and with one in the middle; a trace of two records cut off at every length; kinds 0, 15 and 255
+// first, in the middle, behind the last and alone; vs, carry and block kind 0 and 255; which refusal comes first; and buffers of the exact length, longer, one byte
+// short and of none. The answers are those of a model that was made for them from the words of the ask.
 #![tactic(auto)]
 
 use std::io;
