@@ -2,9 +2,9 @@
  * Raw HTML in bulletins: what it is, what is shown without it, and what GitHub's tag filter makes of it.
  *
  * A slice is a pointer and a length in bytes. With length 0 nothing is read or written behind the pointer; it may be any pointer but NULL. An output buffer
- * shares no byte with another slice, so `out` is never the bulletin itself. Any bytes are taken, valid UTF-8 or not, and NUL among them; what is written has no
- * NUL at its end and is not escaped for HTML: foringamo_filter replaces the `<` of nine tags and no other byte. Nothing is kept when a function returns, none of
- * them allocates, and any number of threads may call them.
+ * shares no byte with another slice, so `out` is never the bulletin or trace itself. Any bytes are taken, valid UTF-8 or not, and NUL among them; what is written
+ * has no NUL at its end and is not escaped for HTML: foringamo_filter replaces the `<` of nine tags and no other byte. Nothing is kept when a function returns, none
+ * of them allocates, and any number of threads may call them.
  *
  * Every result comes back by value; but for the count of lines, which refuses nothing, it begins with its refusal. Look at it first: a refusal also has kind 0
  * or found 0, which without a refusal means that nothing was found.
@@ -17,11 +17,13 @@
  *     5  the carry is above 5
  *     6  the inline text has two line endings with only spaces, tabs or no bytes between
  *     7  the output buffer is shorter than the output needs
- *     8  reading a trace: a kind byte is 0 or above 14
- *     9  reading a trace: a record is cut off, or there are not so many (so a loop over all records ends with 9)
+ *     8  reading or converting a trace: a kind byte is 0 or above 14
+ *     9  reading or converting a trace: a record is cut off; reading it, also: there are not so many (so a loop over all records ends with 9)
+ *    10  converting a trace: it has not exactly one last record, at its end
+ *    11  making a trace narrow: a line, column, index or stop is above 65,535
  *
- * Of 1 to 7 the first that applies is given. On a refusal every other field is 0 but the carry, which is the one passed in, and the name, which is 255; no byte of
- * the output buffer changes. On an answer its bytes past those written stay as they are.
+ * Of 1 to 7 the first that applies is given; converting a trace, 8 or 9 comes first, then 10, 11 and 7. On a refusal every other field is 0 but the carry, which is
+ * the one passed in, and the name, which is 255; no byte of the output buffer changes. On an answer its bytes past those written stay as they are.
  *
  * A bulletin has one line more than it has line endings (LF, CR LF, or CR), also where it is empty or ends in one, and a flag for each line;
  * foringamo_count_lines says how many. A flag tells what a Markdown parser knows of the line; without one, all flags are 0:
@@ -50,7 +52,7 @@
 #include <stddef.h>
 #include <stdint.h>
 
-#define FORINGAMO_VERSION "0.4.0"
+#define FORINGAMO_VERSION "0.5.0"
 
 #ifdef __cplusplus
 extern "C" {
@@ -89,7 +91,7 @@ typedef struct {
     size_t stop;
 } foringamo_inline;
 
-/* What was written, by a trace or by the filter. */
+/* What was written, by a trace, by the filter or by a conversion. */
 typedef struct {
     uint8_t refusal;
     size_t length; /* bytes written */
@@ -102,6 +104,9 @@ typedef foringamo_written foringamo_trace;
  * A record of a trace. Kinds 1 to 12 are events, enter (odd) and exit (even) of HtmlFlow, HtmlFlowData, LineEnding, HtmlText, HtmlTextData and SpaceOrTab;
  * 13 is the last record of an inline trace, 14 that of a block trace. In the trace an event has 14 bytes: the kind, line, column and index in four bytes each, low
  * byte first, and vs. A last record has 6: the kind, the stop in four bytes, low byte first, and the carry or block kind.
+ *
+ * Such a trace is wide. Before version 0.4 traces were narrow, with two bytes for each line, column, index and stop: an event has 8 bytes there, a last record 4.
+ * Only foringamo_widen_trace takes a narrow trace, and only foringamo_narrow_trace writes one.
  */
 typedef struct {
     uint8_t refusal;
@@ -148,6 +153,22 @@ foringamo_trace foringamo_inline_trace(const uint8_t *text, size_t text_len, siz
 
 /* The record of a number, counted from 0. The first bad record on the way decides; later ones are not looked at. Refusals 8, 9. */
 foringamo_record foringamo_read_trace(const uint8_t *trace, size_t trace_len, size_t number);
+
+/*
+ * Writes a narrow trace as a wide one: the same records, with their kinds and values, in their order. They always fit: 8 * e + 4 bytes, where e counts the events,
+ * become 14 * e + 6, of which foringamo_narrow_trace makes the first bytes again.
+ *
+ * A trace here is whole records, the last and no other of kind 13 or 14. It may have any length; events may be of any kinds in any order, and vs, carry and block kind
+ * any byte. The first bad record decides between 8 and 9, and all are looked at, those behind a last record too; 10 is for the empty trace too. The time is linear in
+ * the trace's length. Refusals 8, 9, 10, 7.
+ */
+foringamo_written foringamo_widen_trace(const uint8_t *trace, size_t trace_len, uint8_t *out, size_t out_len);
+
+/*
+ * Writes a wide trace as a narrow one: 14 * e + 6 bytes become 8 * e + 4, of which foringamo_widen_trace makes the first bytes again. Where a line, column, index or
+ * stop is above 65,535 it is refused; all else is as above. Refusals 8, 9, 10, 11, 7.
+ */
+foringamo_written foringamo_narrow_trace(const uint8_t *trace, size_t trace_len, uint8_t *out, size_t out_len);
 
 /*
  * Writes the bulletin without its raw HTML. In a paragraph a `<` behind an odd number of backslashes in a row is text, in both readings and for the filter. Room

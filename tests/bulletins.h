@@ -1,11 +1,19 @@
 /*
- * Bulletins for the programs in tests/ that check the C interface: their pieces by the scans of either reading, and pseudo-random ones.
+ * Bulletins for the programs in tests/ that check the C interface: the longest, their pieces by the scans of either reading, and pseudo-random ones.
  */
 #ifndef BULLETINS_H
 #define BULLETINS_H
 
 #include "check.h"
 #include "reading.h"
+
+/* The most bytes that a bulletin or text has. */
+enum { LIMIT = 1000000 };
+
+/* One byte above the limit, and flags for as many lines as that can have. */
+static uint8_t big[LIMIT + 1];
+static const uint8_t zeros[LIMIT + 2];
+static const uint8_t wrong[] = {4, 4};
 
 /* A bulletin, its flags, and what is shown of it. */
 typedef struct {
@@ -115,14 +123,6 @@ static inline void mark_pieces(const reading *by, const screen_case *row, uint8_
         }
         index = next_line(row, stop);
     }
-}
-
-static uint32_t random_state = 1;
-
-/* A pseudo-random number below a bound. */
-static inline size_t below(size_t bound) {
-    random_state = random_state * 1664525 + 1013904223;
-    return (random_state >> 8) % bound;
 }
 
 /* The parts that bulletins are made of. Some stand there more than once, so that tags are frequent, and some for the places where the readings part. */

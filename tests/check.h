@@ -29,9 +29,6 @@ static inline void check(int holds, const char *file, int line, const char *what
 /* A pointer that nothing may be read or written behind. */
 #define NOWHERE ((uint8_t *)1)
 
-/* The most bytes that a bulletin or text has. */
-enum { LIMIT = 1000000 };
-
 /* The bytes of a trace's records: of an event, and of the last one. */
 enum { EVENT = 14, LAST = 6 };
 
@@ -88,10 +85,13 @@ static inline int is_shown(foringamo_shown r, int refusal, size_t length, size_t
 #define REFUSES_WRITTEN(refusal, call) (fill(), CHECK(is_written(call, refusal, 0) && kept_from(0)))
 #define REFUSES_SHOWN(refusal, call) (fill(), CHECK(is_shown(call, refusal, 0, 0) && kept_from(0)))
 
-/* One byte above the limit, and flags for as many lines as that can have. */
-static uint8_t big[LIMIT + 1];
-static const uint8_t zeros[LIMIT + 2];
-static const uint8_t wrong[] = {4, 4};
+static uint32_t random_state = 1;
+
+/* A pseudo-random number below a bound. */
+static inline size_t below(size_t bound) {
+    random_state = random_state * 1664525 + 1013904223;
+    return (random_state >> 8) % bound;
+}
 
 /* Ends the program with its numbers. */
 static inline int finish(void) {

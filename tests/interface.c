@@ -1,7 +1,7 @@
 /*
  * The C interface: the layout of its structs, the count of lines, the names in their places, each first byte of a name, every refusal, what becomes of the output
- * buffer, and where the two readings part; tests/filter.c has the tag filter, tests/long.c long bulletins. tests/interface.sh builds and runs all three. A line for
- * each check that fails; the last line is 'N passed, M failed'.
+ * buffer, and where the two readings part; tests/filter.c has the tag filter, tests/long.c long bulletins, tests/conversion.c the conversion of traces.
+ * tests/interface.sh builds and runs all four. A line for each check that fails; the last line is 'N passed, M failed'.
  */
 #include <ctype.h>
 

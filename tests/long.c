@@ -345,7 +345,7 @@ static int has_rows(size_t length, size_t count, row (*expected)(size_t number))
            is_record(foringamo_read_trace(lent, length, count), 9, 0, 0, 0, 0, 0);
 }
 
-/* It takes the room that always suffices, and with one byte less it is refused. */
+/* It takes the room that always suffices, and with one byte less it is refused. It has no narrow trace. */
 static void longest_block(const char *ending) {
     size_t lines = BLOCK_LINES + 1, events = OPENING + 2 * BLOCK_LINES + 1;
     make_long(LIMIT, "<?", ending, "");
@@ -354,6 +354,7 @@ static void longest_block(const char *ending) {
     CHECK(lent_kept(0, LONGEST));
     CHECK(is_written(foringamo_block_trace(big, LIMIT, zeros, lines, 0, lent, LONGEST), 0, LONGEST));
     CHECK(lent_kept(LONGEST, LONGEST) && has_rows(LONGEST, events + 1, block_row));
+    CHECK(is_written(foringamo_narrow_trace(lent, LONGEST, NOWHERE, 0), 11, 0));
 }
 
 static void longest_inline(void) {
@@ -364,6 +365,7 @@ static void longest_inline(void) {
     CHECK(lent_kept(0, trace));
     CHECK(is_written(foringamo_inline_trace(big, LIMIT, 0, CARRY, lent, trace), 0, trace));
     CHECK(lent_kept(trace, trace) && has_rows(trace, events + 1, inline_row));
+    CHECK(is_written(foringamo_narrow_trace(lent, trace, NOWHERE, 0), 11, 0));
 }
 
 /* ---- what the header says of room for a trace and of lines that open a block, of every short text over some bytes */

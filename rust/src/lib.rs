@@ -38,8 +38,10 @@ pub const LAZY: u8 = 1;
 /// The flag of a line that would have to interrupt a paragraph.
 pub const INTERRUPT: u8 = 2;
 
-/// Why an input is refused, with its number. Of 1 to 7 the first that applies is given.
+/// Why an input is refused, with its number. Of 1 to 7 the first that applies is given; converting a trace, 8 or 9 comes first, then 10, 11 and 7. A later version may
+/// have more of them, for functions that it adds.
 #[derive(Clone, Copy, Debug, PartialEq, Eq, Hash)]
+#[non_exhaustive]
 #[repr(u8)]
 pub enum Refusal {
     /// The bulletin or text has over [`LIMIT`] bytes.
@@ -56,14 +58,18 @@ pub enum Refusal {
     BlankLine = 6,
     /// The output buffer is shorter than the output needs.
     NoRoom = 7,
-    /// Reading a trace: a kind byte is 0 or above 14.
+    /// Reading or converting a trace: a kind byte is 0 or above 14.
     WrongKind = 8,
-    /// Reading a trace: a record is cut off, or there are not so many.
+    /// Reading or converting a trace: a record is cut off; reading it, also: there are not so many.
     CutOff = 9,
+    /// Converting a trace: it has not exactly one last record, at its end.
+    NotEnded = 10,
+    /// Making a trace narrow: a line, column, index or stop is above 65,535.
+    NotNarrow = 11,
 }
 
 impl Refusal {
-    /// Its number, 1 to 9.
+    /// Its number, 1 to 11.
     pub fn number(self) -> u8 {
         self as u8
     }
@@ -81,6 +87,8 @@ impl fmt::Display for Refusal {
             Refusal::NoRoom => "the output buffer is shorter than the output needs",
             Refusal::WrongKind => "a kind byte of the trace is 0 or above 14",
             Refusal::CutOff => "a record of the trace is cut off or not there",
+            Refusal::NotEnded => "the trace has not exactly one last record, at its end",
+            Refusal::NotNarrow => "a line, column, index or stop of the trace is above 65,535",
         })
     }
 }
@@ -202,6 +210,9 @@ pub struct Point {
 
 /// A record of a trace. In the trace an event has 14 bytes: the kind, line, column and index in four bytes each, low byte first, and vs. A last record has 6: the
 /// kind, the stop in four bytes, low byte first, and the carry or block kind.
+///
+/// Such a trace is wide. Before version 0.4 traces were narrow, with two bytes for each line, column, index and stop: an event has 8 bytes there, a last record 4.
+/// Only [`widen_trace`] takes a narrow trace, and only [`narrow_trace`] writes one.
 #[derive(Clone, Copy, Debug, PartialEq, Eq, Hash)]
 pub enum Record {
     /// Kinds 1, 3, 5, 7, 9 and 11.
@@ -264,7 +275,7 @@ mod c {
         pub stop: usize,
     }
 
-    // Of both traces and of the filter.
+    // Of traces, the filter and conversions.
     #[repr(C)]
     pub struct Written {
         pub refusal: u8,
@@ -312,6 +323,8 @@ mod c {
         ) -> Written;
         pub fn foringamo_inline_trace(text: *const u8, text_len: usize, index: usize, carry: u8, out: *mut u8, out_len: usize) -> Written;
         pub fn foringamo_read_trace(trace: *const u8, trace_len: usize, number: usize) -> Record;
+        pub fn foringamo_widen_trace(trace: *const u8, trace_len: usize, out: *mut u8, out_len: usize) -> Written;
+        pub fn foringamo_narrow_trace(trace: *const u8, trace_len: usize, out: *mut u8, out_len: usize) -> Written;
         pub fn foringamo_withhold(
             bulletin: *const u8,
             bulletin_len: usize,
@@ -352,6 +365,8 @@ fn unless_refused<T>(refusal: u8, answer: impl FnOnce() -> T) -> Result<T, Refus
         7 => Refusal::NoRoom,
         8 => Refusal::WrongKind,
         9 => Refusal::CutOff,
+        10 => Refusal::NotEnded,
+        11 => Refusal::NotNarrow,
         _ => unreachable!(),
     })
 }
@@ -510,6 +525,47 @@ pub fn inline_trace(text: &[u8], index: usize, carry: u8, out: &mut [u8]) -> Res
 pub fn read_trace(trace: &[u8], number: usize) -> Result<Record, Refusal> {
     let got = unsafe { c::foringamo_read_trace(trace.as_ptr(), trace.len(), number) };
     unless_refused(got.refusal, || record(got))
+}
+
+/// Writes a narrow trace as a wide one (see [`Record`]) and gives its length: the same records, with their kinds and values, in their order. They always fit:
+/// `8 * e + 4` bytes, where `e` counts the events, become `14 * e + 6`, of which [`narrow_trace`] makes the first bytes again. Refusals 8, 9, 10, 7.
+///
+/// A trace here is whole records, the last and no other of kind 13 or 14. It may have any length; events may be of any kinds in any order, and vs, carry and block
+/// kind any byte. The first bad record decides between 8 and 9, and all are looked at, those behind a last record too; 10 is for the empty trace too. The time is
+/// linear in the trace's length.
+///
+/// ```
+/// use foringamo::{widen_trace, Refusal};
+///
+/// let narrow = [7, 1, 0, 1, 0, 0, 0, 0, 8, 1, 0, 4, 0, 3, 0, 0, 13, 3, 0, 0];
+/// let wide = [7, 1, 0, 0, 0, 1, 0, 0, 0, 0, 0, 0, 0, 0, 8, 1, 0, 0, 0, 4, 0, 0, 0, 3, 0, 0, 0, 0, 13, 3, 0, 0, 0, 0];
+/// let mut out = [0; 2 * 14 + 6];
+/// assert_eq!(widen_trace(&narrow, &mut out), Ok(out.len()));
+/// assert_eq!(out, wide);
+/// assert_eq!(widen_trace(&narrow[..16], &mut out), Err(Refusal::NotEnded));
+/// ```
+pub fn widen_trace(trace: &[u8], out: &mut [u8]) -> Result<usize, Refusal> {
+    let got = unsafe { c::foringamo_widen_trace(trace.as_ptr(), trace.len(), out.as_mut_ptr(), out.len()) };
+    unless_refused(got.refusal, || got.length)
+}
+
+/// Writes a wide trace as a narrow one and gives its length: `14 * e + 6` bytes become `8 * e + 4`, of which [`widen_trace`] makes the first bytes again. Where a
+/// line, column, index or stop is above 65,535 it is refused; all else is as there. Refusals 8, 9, 10, 11, 7.
+///
+/// ```
+/// use foringamo::{inline_trace, narrow_trace, Refusal};
+///
+/// let (mut trace, mut out) = ([0; 62], [0; 36]);
+/// inline_trace(b"<b>", 0, 0, &mut trace)?;
+/// assert_eq!(narrow_trace(&trace, &mut out), Ok(36));
+/// assert_eq!(&out[..8], [7, 1, 0, 1, 0, 0, 0, 0]);
+/// assert_eq!(&out[32..], [13, 3, 0, 0]);
+/// assert_eq!(narrow_trace(&[13, 0, 0, 1, 0, 0], &mut out), Err(Refusal::NotNarrow));
+/// # Ok::<(), Refusal>(())
+/// ```
+pub fn narrow_trace(trace: &[u8], out: &mut [u8]) -> Result<usize, Refusal> {
+    let got = unsafe { c::foringamo_narrow_trace(trace.as_ptr(), trace.len(), out.as_mut_ptr(), out.len()) };
+    unless_refused(got.refusal, || got.length)
 }
 
 /// Writes the bulletin without its raw HTML. In a paragraph a `<` behind an odd number of backslashes in a row is text. Room for the bulletin's length always

@@ -4,8 +4,8 @@
 use std::fmt::Debug;
 
 use foringamo::{
-    block_scan, block_trace, count_lines, filter, inline_scan, inline_trace, read_trace, standard_block_scan, standard_inline_scan, standard_withhold, withhold,
-    Block, Inline, Kind, Name, Point, Record, Refusal, Shown, BLOCK_NAMES, INTERRUPT, LAZY, LIMIT, RAW_NAMES,
+    block_scan, block_trace, count_lines, filter, inline_scan, inline_trace, narrow_trace, read_trace, standard_block_scan, standard_inline_scan,
+    standard_withhold, widen_trace, withhold, Block, Inline, Kind, Name, Point, Record, Refusal, Shown, BLOCK_NAMES, INTERRUPT, LAZY, LIMIT, RAW_NAMES,
 };
 
 const FILL: u8 = 0xee;
@@ -336,15 +336,17 @@ fn far_traces() {
     assert_eq!(read_trace(&out, 4), Ok(Record::LastBlock { stop: exit.index, kind: Kind::Comment.number() }));
 }
 
+// The names of events, in the order of their kinds.
+const NAMES: [Name; 6] = [Name::HtmlFlow, Name::HtmlFlowData, Name::LineEnding, Name::HtmlText, Name::HtmlTextData, Name::SpaceOrTab];
+
 #[test]
 fn records() {
-    let names = [Name::HtmlFlow, Name::HtmlFlowData, Name::LineEnding, Name::HtmlText, Name::HtmlTextData, Name::SpaceOrTab];
     let point = Point { line: 0x0102_0304, column: 0x0506_0708, index: 0x090a_0b0c, vs: 13 };
     for kind in 0..=255 {
         let got = read_trace(&[kind, 4, 3, 2, 1, 8, 7, 6, 5, 12, 11, 10, 9, 13], 0);
         let expected = match kind {
-            1..=12 if kind % 2 == 1 => Ok(Record::Enter(names[usize::from(kind - 1) / 2], point)),
-            1..=12 => Ok(Record::Exit(names[usize::from(kind - 1) / 2], point)),
+            1..=12 if kind % 2 == 1 => Ok(Record::Enter(NAMES[usize::from(kind - 1) / 2], point)),
+            1..=12 => Ok(Record::Exit(NAMES[usize::from(kind - 1) / 2], point)),
             13 => Ok(Record::LastInline { stop: 0x0102_0304, carry: 8 }),
             14 => Ok(Record::LastBlock { stop: 0x0102_0304, kind: 8 }),
             _ => Err(Refusal::WrongKind),
@@ -356,6 +358,126 @@ fn records() {
     }
     // The block kind of a trace is the byte there, whatever it is.
     assert_eq!(read_trace(&[14, 0, 0, 0, 0, 255], 0), Ok(Record::LastBlock { stop: 0, kind: 255 }));
+}
+
+// How many bytes a line, column, index or stop has, in a narrow trace and in a wide one, and the greatest number of two bytes.
+const NARROW: usize = 2;
+const WIDE: usize = 4;
+const NARROW_MOST: usize = 65_535;
+
+const EVENT: Record = Record::Exit(Name::LineEnding, Point { line: 1, column: 2, index: 3, vs: 4 });
+const LAST: Record = Record::LastInline { stop: 5, carry: 6 };
+
+// The trace of some records, with fields of so many bytes.
+fn trace_of(records: &[Record], width: usize) -> Vec<u8> {
+    let mut trace = vec![];
+    for record in records {
+        let (fields, last) = match *record {
+            Record::Enter(_, p) | Record::Exit(_, p) => (vec![p.line, p.column, p.index], p.vs),
+            Record::LastInline { stop, carry } => (vec![stop], carry),
+            Record::LastBlock { stop, kind } => (vec![stop], kind),
+        };
+        trace.push(record.number());
+        for field in fields {
+            trace.extend(&field.to_le_bytes()[..width]);
+        }
+        trace.push(last);
+    }
+    trace
+}
+
+// In every room, the records go across both ways.
+fn cross(records: &[Record]) {
+    let (narrow, wide) = (trace_of(records, NARROW), trace_of(records, WIDE));
+    in_every_room(wide.len() + 1, &wide, wide.len(), |out| widen_trace(&narrow, out));
+    in_every_room(narrow.len() + 1, &narrow, narrow.len(), |out| narrow_trace(&wide, out));
+}
+
+#[test]
+fn converted() {
+    let point = |line, column, index, vs| Point { line, column, index, vs };
+    let mut records = vec![];
+    for (n, name) in NAMES.into_iter().enumerate() {
+        records.push(Record::Exit(name, point(0x0102 + n, 0x0304 + n, 0x0506 + n, 255)));
+        records.push(Record::Enter(name, point(n, NARROW_MOST - n, 256 * n, n as u8)));
+    }
+    for last in [
+        Record::LastInline { stop: 0x0708, carry: 5 },
+        Record::LastBlock { stop: 0x0708, kind: 7 },
+        Record::LastInline { stop: 0, carry: 255 },
+        Record::LastBlock { stop: NARROW_MOST, kind: 255 },
+    ] {
+        cross(&[last]);
+        records.push(last);
+        cross(&records);
+        records.pop();
+    }
+    let most = point(NARROW_MOST, NARROW_MOST, NARROW_MOST, 0);
+    cross(&[Record::Enter(Name::HtmlText, most), Record::LastInline { stop: NARROW_MOST, carry: 0 }]);
+
+    // Both have more bytes than a bulletin may have.
+    let mut many = vec![EVENT; LIMIT / 8];
+    many.push(LAST);
+    let (narrow, wide) = (trace_of(&many, NARROW), trace_of(&many, WIDE));
+    let mut out = vec![FILL; wide.len()];
+    assert!(narrow.len() > LIMIT && wide.len() > LIMIT);
+    assert_eq!(widen_trace(&narrow, &mut out), Ok(wide.len()));
+    assert!(out == wide);
+    out.fill(FILL);
+    assert_eq!(narrow_trace(&wide, &mut out), Ok(narrow.len()));
+    assert!(out[..narrow.len()] == narrow && out[narrow.len()..].iter().all(|&b| b == FILL));
+}
+
+// In every room a conversion is refused so, and no byte of the buffer changes.
+fn refuse(refusal: Refusal, trace: &[u8], convert: fn(&[u8], &mut [u8]) -> Result<usize, Refusal>) {
+    for room in 0..100 {
+        let mut out = vec![FILL; room];
+        assert_eq!(convert(trace, &mut out), Err(refusal), "{trace:?}");
+        assert!(out.iter().all(|&b| b == FILL));
+    }
+}
+
+// A wrong kind and a cut everywhere, and traces without exactly one last record at their end, both ways.
+#[test]
+fn wrong_traces() {
+    for (convert, width) in [(widen_trace as fn(&[u8], &mut [u8]) -> Result<usize, Refusal>, NARROW), (narrow_trace, WIDE)] {
+        let records = [EVENT, LAST, LAST, EVENT];
+        let whole = trace_of(&records, width);
+        let ends = [0, 1, 2, 3, 4].map(|count| trace_of(&records[..count], width).len());
+        for length in (0..whole.len()).filter(|&length| length != ends[2]) {
+            let refusal = if ends.contains(&length) { Refusal::NotEnded } else { Refusal::CutOff };
+            refuse(refusal, &whole[..length], convert);
+        }
+        for &at in &ends[..4] {
+            for kind in [0, 15, 255] {
+                let mut trace = whole.clone();
+                trace[at] = kind;
+                refuse(Refusal::WrongKind, &trace, convert);
+                refuse(Refusal::WrongKind, &trace[..at + 1], convert);
+            }
+        }
+        for records in [&records[..], &[EVENT, LAST, EVENT], &[LAST, EVENT], &[LAST, EVENT, LAST], &[EVENT, EVENT]] {
+            refuse(Refusal::NotEnded, &trace_of(records, width), convert);
+        }
+    }
+}
+
+// A field above two bytes alone, and what comes before it.
+#[test]
+fn above_narrow() {
+    for above in [NARROW_MOST + 1, 0x0100_0000, u32::MAX as usize] {
+        for (line, column, index, stop) in [(above, 0, 0, 0), (0, above, 0, 0), (0, 0, above, 0), (0, 0, 0, above)] {
+            let event = Record::Enter(Name::HtmlFlow, Point { line, column, index, vs: 0 });
+            for last in [Record::LastInline { stop, carry: 0 }, Record::LastBlock { stop, kind: 0 }] {
+                refuse(Refusal::NotNarrow, &trace_of(&[event, EVENT, last], WIDE), narrow_trace);
+                let trace = trace_of(&[EVENT, event, last], WIDE);
+                refuse(Refusal::NotNarrow, &trace, narrow_trace);
+                refuse(Refusal::NotEnded, &[&trace[..], &trace].concat(), narrow_trace);
+                refuse(Refusal::WrongKind, &[&trace[..], &[15]].concat(), narrow_trace);
+                refuse(Refusal::CutOff, &[&trace[..], &[12]].concat(), narrow_trace);
+            }
+        }
+    }
 }
 
 #[test]
@@ -370,6 +492,8 @@ fn refusals() {
         Refusal::NoRoom,
         Refusal::WrongKind,
         Refusal::CutOff,
+        Refusal::NotEnded,
+        Refusal::NotNarrow,
     ];
     for (number, refusal) in (1..).zip(all) {
         assert_eq!(refusal.number(), number);
