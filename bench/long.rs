@@ -1,4 +1,4 @@
-//! What the library costs by length, up to the limit of 1,000,000 bytes: withholding, the tag filter, scans, traces, reading a trace and counting lines. bench/run.sh
+//! What the library costs by length, up to the limit of 1,000,000 bytes: withholding, the tag filter, scans, traces, reading a trace, taking it narrow and wide, and counting lines. bench/run.sh
 //! builds and runs it.
 //!
 //! The calls of a line, at each length, take turns; all lines are gone through several times, and those with a call above a bound several times more; the least time
@@ -28,6 +28,10 @@ const PASSES: usize = 6;
 // The bytes of an event in a trace, and of the last record.
 const EVENT: usize = 14;
 const LAST: usize = 6;
+
+// The last kind of an event, and that of an inline trace's last record.
+const LAST_EVENT: u8 = 12;
+const LAST_TEXT: u8 = 13;
 
 // Room for every output: a trace has at most two events for a byte (include/foringamo.h), and nothing is longer.
 const ROOM: usize = 2 * LIMIT * EVENT + LAST;
@@ -83,6 +87,14 @@ fn read_last(given: &Given, _: &mut [u8]) -> Result<usize, Refusal> {
     }
 }
 
+fn narrow_trace(given: &Given, out: &mut [u8]) -> Result<usize, Refusal> {
+    foringamo::narrow_trace(&given.text, out)
+}
+
+fn widen_trace(given: &Given, out: &mut [u8]) -> Result<usize, Refusal> {
+    foringamo::widen_trace(&given.text, out)
+}
+
 fn count_lines(given: &Given, _: &mut [u8]) -> Result<usize, Refusal> {
     Ok(foringamo::count_lines(&given.text))
 }
@@ -125,6 +137,29 @@ fn trace_of(given: Given, trace: Call) -> Given {
     let mut records = vec![0; ROOM];
     let length = trace(&given, &mut records).expect("not refused");
     Given { text: records[..length].to_vec(), flags: vec![], index: (length - LAST) / EVENT }
+}
+
+// A wide trace with two events for each byte of a text, as long as one of a scan can be, whose numbers fit two bytes.
+fn wide_trace(text: Vec<u8>) -> Given {
+    let mut trace = Vec::with_capacity(2 * text.len() * EVENT + LAST);
+    for number in 0..2 * text.len() {
+        trace.push(1 + (number % usize::from(LAST_EVENT)) as u8);
+        for field in [number, number / 32, number * 7] {
+            trace.extend_from_slice(&u32::from(field as u16).to_le_bytes());
+        }
+        trace.push(0);
+    }
+    trace.extend_from_slice(&[LAST_TEXT, 1, 0, 0, 0, 0]);
+    Given { text: trace, flags: vec![], index: 0 }
+}
+
+// The same, narrow.
+fn old_trace(text: Vec<u8>) -> Given {
+    let wide = wide_trace(text);
+    let mut narrow = vec![0; wide.text.len()];
+    let length = narrow_trace(&wide, &mut narrow).expect("it fits");
+    narrow.truncate(length);
+    Given { text: narrow, ..wide }
 }
 
 // Two line endings in a row, which no inline text has.
@@ -331,6 +366,17 @@ fn reading_table(out: &Out) -> Table {
     inline.with(vec![endings], |text| trace_of(at_line(text), block_trace), out)
 }
 
+// By bytes of the text whose trace it could be: 28 of a wide trace, 16 of a narrow one.
+fn narrowing_table(out: &Out) -> Table {
+    let table = Table::new("wide trace", vec![roomy("narrow_trace", narrow_trace)], "trace, bytes");
+    table.with(vec![between("two events a byte", "", "x", "")], wide_trace, out)
+}
+
+fn widening_table(out: &Out) -> Table {
+    let table = Table::new("narrow trace", vec![roomy("widen_trace", widen_trace)], "trace, bytes");
+    table.with(vec![between("two events a byte", "", "x", "")], old_trace, out)
+}
+
 fn counting_table(out: &Out) -> Table {
     Table::new("text", vec![roomy("count_lines", count_lines)], "lines").with(counted_texts(), at_opening, out)
 }
@@ -414,7 +460,7 @@ fn judge(costs: &[Cost]) -> bool {
 
 fn main() -> ExitCode {
     let out: Out = Rc::new(RefCell::new(vec![1; ROOM]));
-    let mut tables = [bulletin_table, inline_table, block_table, reading_table, counting_table].map(|table| table(&out));
+    let mut tables = [bulletin_table, inline_table, block_table, reading_table, narrowing_table, widening_table, counting_table].map(|table| table(&out));
     let mut memory = memory_table(&out);
     for _ in 0..PASSES {
         tables.iter_mut().for_each(Table::pass);
