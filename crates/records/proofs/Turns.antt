@@ -12,8 +12,8 @@ use Rattle.lexical.proofs.Stores.{stores, same}
 use Rattle.rules.specs.Trace.{wide, Record, recordLength, recordAt, recordBytes, traceBytes}
 use Rattle.records.specs.Records.{records, badRecord, traceRefusal}
 use Rattle.records.specs.Conversion.{isOver, someOver, areBytes}
-use Rattle.records.proofs.Records.{whole, either, event-size, last-size, event-bytes, last-bytes}
-use Rattle.records.proofs.Walks.{next, records-in, records-out, no-flaw, none-on}
+use Rattle.records.proofs.Records.{either, event-size, last-size, event-bytes, last-bytes}
+use Rattle.records.proofs.Walks.{next, records-in, records-out, no-flaw, Clear, clear-start, clear-on}
 use Rattle.records.proofs.Conversion.{none-bad, own-length, converted-length}
 
 -- ---- records with fields of w bytes, to be written with fields of v bytes
@@ -42,37 +42,32 @@ module _ (v w : ℕ) (s : List ℕ) where
 
   -- where the walk stands: what is left, written from here on, makes the whole
   pub record Stands (old out : List ℕ) (at put : ℕ) : Type 0 where
-    pub within : at ≤ length s
-    pub sound : badRecord (records w (drop at s)) ≡ 0
+    pub clear : Clear w s at
     pub size : length out ≡ length old
     pub end : put + length (left at) ≡ length (left 0)
     pub bytes : stored out put (left at) ≡ stored old 0 (left 0)
 
   pub begins : (old : List ℕ) → traceRefusal w s ≡ 0 → Stands old old 0 0
-  begins old e = record { within = omega arith; sound = none-bad w s e; size = refl; end = omega arith; bytes = refl }
+  begins old e = record { clear = clear-start w s (none-bad w s e); size = refl; end = omega arith; bytes = refl }
 
   module _ {old out : List ℕ} {at put : ℕ} (i : Stands old out at put) where
     pub room : at < length s → length (left 0) ≤ length old → put + length (recordBytes v (recordAt w (drop at s))) ≤ length out
-    room h r = omega (arith, i.size, i.end, more-left at h i.sound)
-
-    pub fits : at < length s → at + recordLength w (get_or s at 0) ≤ length s
-    fits h = (whole w s at (no-flaw w s at h i.sound)).fits
+    room h r = omega (arith, i.size, i.end, more-left at h i.clear.none)
 
     pub put-fits : at < length s → length (left 0) ≤ length old → put + recordLength v (get_or s at 0) ≤ length out
-    put-fits h r = omega (arith, room h r, record-room at h i.sound)
+    put-fits h r = omega (arith, room h r, record-room at h i.clear.none)
 
     pub goes-on : {new : List ℕ} (h : at < length s) (r : Record) (n m : ℕ) → r ≡ recordAt w (drop at s) → n ≡ recordLength w (get_or s at 0)
         → m ≡ recordLength v (get_or s at 0) → Written out put (recordBytes v r) new → Stands old new (at + n) (put + m)
     goes-on {new} h r n m e en em t =
-        let g = record-room at h i.sound in
+        let g = record-room at h i.clear.none in
         record {
-          within = omega (arith, fits h, en);
-          sound = rw en (none-on w s at h i.sound);
+          clear = clear-on w s i.clear h en;
           size = same t ∙ i.size;
-          end = rw (en, em) (omega (arith, more-left at h i.sound, g, i.end));
+          end = rw (en, em) (omega (arith, more-left at h i.clear.none, g, i.end));
           bytes = rw en (ap (λ o. stored o (put + m) (left (next w s at))) t.is
               ∙ stores out put (put + m) (recordBytes v r) (left (next w s at)) (omega (arith, em, ap (λ q. length (recordBytes v q)) e, g))
-              ∙ ap (stored out put) (ap (λ q. recordBytes v q ++ left (next w s at)) e ∙ sym (one-more at h i.sound))
+              ∙ ap (stored out put) (ap (λ q. recordBytes v q ++ left (next w s at)) e ∙ sym (one-more at h i.clear.none))
               ∙ i.bytes);
         }
 

@@ -103,7 +103,7 @@ module _ (w : ℕ) where
             split (eqb (recordRefusal w (drop at s)) 0) (λ e. eqb-true (recordRefusal w (drop at s)) 0 e)
             (λ e. sym (bad-here h (eqb-false (recordRefusal w (drop at s)) 0 e)) ∙ none)
 
-        pub none-on : badRecord (records w (drop (next at) s)) ≡ 0
+        none-on : badRecord (records w (drop (next at) s)) ≡ 0
         none-on = sym (bad-on no-flaw) ∙ none
 
         -- what ends them
@@ -123,6 +123,21 @@ module _ (w : ℕ) where
       pub ends-out : length s ≤ at → endsOnce (records w (drop at s)) ≡ false
       unfolding endsOnce
       ends-out h = ap endsOnce (records-out at h)
+
+    -- where a walk stands that meets no bad record
+    pub record Clear (at : ℕ) : Type 0 where
+      pub within : at ≤ length s
+      pub none : badRecord (records w (drop at s)) ≡ 0
+
+    pub clear-start : badRecord (records w s) ≡ 0 → Clear 0
+    clear-start e = record { within = omega arith; none = e }
+
+    module _ {at : ℕ} (clear : Clear at) (h : at < length s) where
+      pub clear-fits : next at ≤ length s
+      clear-fits = (whole w s at (no-flaw at h clear.none)).fits
+
+      pub clear-on : {n : ℕ} → n ≡ recordLength w (get_or s at 0) → Clear (at + n)
+      clear-on e = rw e (record { within = clear-fits; none = none-on at h clear.none })
 
     -- ---- a trace with no bad record, of bytes: its records can be read, and give its bytes
     module _ (b : areBytes s ≡ true) where

@@ -2,8 +2,8 @@ use native.Mathlib.Omega.{arith}
 use mathlib.Core.Path.{ap}
 use lib.ListN.{length}
 use Rattle.rules.specs.Trace.{recordBytes}
-use Rattle.records.proofs.Walks.{forward}
-use Rattle.records.proofs.Turns.{begins, room, fits, put-fits, goes-on, done}
+use Rattle.records.proofs.Walks.{forward, clear-fits}
+use Rattle.records.proofs.Turns.{begins, room, put-fits, goes-on, done}
 use Rattle.records.proofs.convert.write_records.Goals as goal
 
 pub loop-at-init : goal.loop-at-init
@@ -14,7 +14,7 @@ put_record-requires-clause-room c = let a = c.args in
     omega (arith, ap (λ r. length (recordBytes a.to r)) c.record_at.ensures, room a.to a.from a.trace.now c.loop-at.invariant c.loop-at-test.true c.requires.room)
 
 pub overflow_add-at : goal.overflow_add-at
-overflow_add-at c = let a = c.args in omega (arith, fits a.to a.from a.trace.now c.loop-at.invariant c.loop-at-test.true, c.record_length-at.ensures)
+overflow_add-at c = let a = c.args in omega (arith, clear-fits a.from a.trace.now c.loop-at.invariant.clear c.loop-at-test.true, c.record_length-at.ensures)
 
 pub overflow_add-put : goal.overflow_add-put
 overflow_add-put c = let a = c.args in
