@@ -113,6 +113,20 @@ fn lend<'a, T>(
     (call(out), out)
 }
 
+/// With enough room a call writes the bytes and leaves the rest.
+fn fills<T: Debug + PartialEq>(
+    out: &mut Vec<u8>,
+    room: usize,
+    bytes: &[u8],
+    wanted: T,
+    call: &mut impl FnMut(&mut [u8]) -> T,
+) -> Result<(), Difference> {
+    let (given, after) = lend(out, room, call);
+    same("the answer that goes with the output", wanted, given)?;
+    same_bytes("the bytes written", bytes, &after[..bytes.len()])?;
+    unchanged("the buffer past the output", &after[bytes.len()..])
+}
+
 /// What a call writes: with room to spare, with exact room and with some other
 /// room it writes the bytes and leaves the rest; with one byte less it is
 /// refused and writes nothing.
@@ -125,13 +139,9 @@ fn writes<T: Copy + Debug + PartialEq>(
     mut call: impl FnMut(&mut [u8]) -> T,
 ) -> Result<(), Difference> {
     for room in [bytes.len() + 3, bytes.len(), other] {
-        if room < bytes.len() {
-            continue;
+        if room >= bytes.len() {
+            fills(&mut work.out, room, bytes, wanted, &mut call)?;
         }
-        let (given, after) = lend(&mut work.out, room, &mut call);
-        same("the answer that goes with the output", wanted, given)?;
-        same_bytes("the bytes written", bytes, &after[..bytes.len()])?;
-        unchanged("the buffer past the output", &after[bytes.len()..])?;
     }
     if !bytes.is_empty() {
         work.short += 1;
@@ -261,14 +271,14 @@ fn traced(
     })
 }
 
-/// The trace of a scan taken narrow and, where it fits, wide again.
+/// The trace of a scan taken narrow and, where it fits, wide again, with exact room.
 fn across(trace: &[u8], work: &mut Work) -> Result<(), Difference> {
     match conversion::converted(trace, Way::Narrow) {
         Ok(narrow) => {
             work.conversions += 2;
             work.converted += 2;
-            converts(trace, Way::Narrow, &narrow, 0, work)?;
-            converts(&narrow, Way::Widen, trace, 0, work)
+            becomes(trace, Way::Narrow, &narrow, work)?;
+            becomes(&narrow, Way::Widen, trace, work)
         }
         Err(refusal) => {
             work.conversions += 1;
@@ -279,22 +289,16 @@ fn across(trace: &[u8], work: &mut Work) -> Result<(), Difference> {
     }
 }
 
-/// A conversion that gives some bytes.
-fn converts(
-    trace: &[u8],
-    way: Way,
-    bytes: &[u8],
-    other: usize,
-    work: &mut Work,
-) -> Result<(), Difference> {
+/// What a trace becomes in a buffer of exact room.
+fn becomes(trace: &[u8], way: Way, bytes: &[u8], work: &mut Work) -> Result<(), Difference> {
     let length = bytes.len();
     let wanted = library::Written { refusal: 0, length };
-    let refused = nothing_written(table::NO_ROOM);
-    let call = |out: &mut [u8]| library::convert(way, trace, out);
-    writes(work, bytes, other, wanted, refused, call)
+    let mut call = |out: &mut [u8]| library::convert(way, trace, out);
+    fills(&mut work.out, length, bytes, wanted, &mut call)
 }
 
-/// A conversion of any bytes; also with no room, and with some other room.
+/// A conversion of any bytes: what it writes; also with no room, and with some other
+/// room.
 pub fn convert(trace: &[u8], way: Way, other: usize, work: &mut Work) -> Outcome {
     let call = |out: &mut [u8]| library::convert(way, trace, out);
     match conversion::converted(trace, way) {
@@ -305,9 +309,11 @@ pub fn convert(trace: &[u8], way: Way, other: usize, work: &mut Work) -> Outcome
             Ok(false)
         }
         Ok(bytes) => {
-            converts(trace, way, &bytes, other, work)?;
-            let rooms = [0, other.min(bytes.len() - 1)];
+            let length = bytes.len();
+            let wanted = library::Written { refusal: 0, length };
             let refused = nothing_written(table::NO_ROOM);
+            writes(work, &bytes, other, wanted, refused, call)?;
+            let rooms = [0, other.min(length - 1)];
             refuses(&mut work.out, &rooms, refused, call)?;
             Ok(true)
         }
