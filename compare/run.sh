@@ -4,7 +4,7 @@
 #     compare/run.sh [--archive FILE] [--seed N] [--count N | --long]
 #
 # FILE is target/staticlib/libforingamo.a where none is given; scripts/archive.sh builds it where it must. The seed is 1 and the count of random texts 1,000,000 where none is
-# given; the head of compare/src/differ.rs tells what is compared. The short form takes about a minute, --long some four (docs/DIFFERENCES.md).
+# given; the head of compare/src/differ.rs tells what is compared. The short form takes one to two minutes, --long five to nine (docs/DIFFERENCES.md).
 # The crate's files stand in $FORINGAMO_RUST_SOURCES, in ../shared/docs/src where that is not set. Where they or rustc are not there its last lines say 'not
 # compared'.
 cd "$(dirname "$0")/.." || exit 1
