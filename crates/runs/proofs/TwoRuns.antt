@@ -92,6 +92,12 @@ module _ (ρ : Rules) (flags : List ℕ) {one two : List ℕ} (d : LinesSwap one
           let f = found ρ w.stretch₁ w.stretch₂ w.back w.both p j₁ j₂ (sizes w.front) w.starts w.led w.ends₁ w.ends₂ w.front 0 false 0 (omega arith) enclosed-lines in
           rw (sym marks-stretch) (rw (w.one-is, w.two-is) f.same-pieces)
 
+    -- the marks of the two bulletins are the same
+    pub line-marks : marks ρ 0 false (linesOf flags one) ≡ marks ρ 0 false (linesOf flags two)
+    line-marks =
+        split (ltb 0 (length d.lines₁)) (λ t. marks-stretch (line-stretch flags d (ltb-true 0 (length d.lines₁) t)))
+        (λ t. ap (λ (text : List ℕ). marks ρ 0 false (linesOf flags text)) (none-same (ltb-false 0 (length d.lines₁) t)))
+
     -- the pieces of the two bulletins correspond
     pub line-pieces : Corresponding p j₁ j₂ (pieces ρ one flags) (pieces ρ two flags)
     line-pieces =
