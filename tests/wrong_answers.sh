@@ -10,9 +10,9 @@
 # the edits of must-fail/ cost nothing, as `rt ci` has just tried them. They are here since `rt ci` passes where one of them cannot be applied or shows nothing.
 #
 # Counted are, for each crate, the control (unedited, it is proved in the copy) and each edit. An edit fails where the crate is proved with it, where it cannot be
-# applied or read, where it does not come to a proof, and where the prover refuses it only because a proof file names what is gone, or only by a limit of its own:
-# such an edit shows nothing. Where the control fails no edit of the crate is tried. A line for each edit that fails, and for each crate; what `rt` says of it
-# stands in target/wrong-answers/NAME.log. The last line is 'N passed, M failed', and the status is 0 only if none failed and there were some.
+# applied or read, where it changes a proof, where it does not come to one, and where the prover refuses it only because a proof file names what is gone, or only by
+# a limit of its own: such an edit shows nothing. Where the control fails no edit of the crate is tried. A line for each edit that fails, and for each crate; what
+# `rt` says of it stands in target/wrong-answers/NAME.log. The last line is 'N passed, M failed', and the status is 0 only if none failed and there were some.
 cd "$(dirname "$0")/.." || exit 1
 logs=$PWD/target/wrong-answers
 jobs=$(nproc 2>/dev/null || echo 1)
@@ -80,6 +80,10 @@ try() {
 # verdict NAME EDIT: why the edit fails; no word where it was refused for a fact.
 verdict() {
     local said
+    if grep '^file:' "$room/crates/$1/must-fail/$2" | grep -qvE '^file: (src/.*\.rt|specs/.*\.antt)$'; then
+        echo 'it changes a file that is none of src/ or specs/'
+        return
+    fi
     said=$(grep -F -m 1 "must-fail $1/$2: " "$logs/$1.log")
     said=${said#*"must-fail $1/$2: "}
     case $said in

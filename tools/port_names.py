@@ -2,9 +2,10 @@
 """Gives the repository's own names the spelling back that the toolchain's port.py changed: usage: tools/port_names.py LANDED, at the top of a checkout in which
 port.py has run over the commit LANDED.
 
-port.py writes some of the repository's definitions and laws with `_` and leaves the others, so that two spellings stand side by side, and names of LANDED fall
-together (`kindAt`, a definition, and `kind-at`, a law, both become `kind_at`; `placeOf` becomes `place_of`, as a function is called). Here such a word becomes the
-word of LANDED that differs from it by the spelling alone. Where there are two such words, the file as it stands in LANDED says which."""
+port.py writes some of the repository's definitions and laws with `_` (`kindAt` becomes `kind_at`, `no-more` `no_more`) and leaves others (`kindNumber`, the law
+`kind-at`). Here a word with `_` becomes the word that it was in the same file of LANDED: the one spelled so but for `_` that LANDED has there more often. In a file
+that LANDED does not have, the one that LANDED has more often in all. A word that stood there with its `_`, as a function's name does, stays. In proofs words of the
+library are turned too, which port.py had right; it is statements that are to be compared, and in those there is none."""
 
 import collections
 import pathlib
@@ -13,55 +14,44 @@ import subprocess
 import sys
 
 WORD = re.compile(r"[A-Za-z_][A-Za-z0-9_'′₁₂₃-]*")
-ENDINGS = (".antt", ".rt", ".edit")
+ENDINGS = (".antt", ".rt")
+
+
+def words(text):
+    """How often each word stands in a text."""
+    return collections.Counter(WORD.findall(text))
 
 
 def at(landed, path):
-    """The text of a file in LANDED, or none."""
-    said = subprocess.run(["git", "show", f"{landed}:{path}"], capture_output=True, text=True)
-    return said.stdout if said.returncode == 0 else ""
+    """The text of a file in LANDED."""
+    return subprocess.run(["git", "show", f"{landed}:{path}"], capture_output=True, text=True, check=True).stdout
 
 
 def spellings(word):
     """A word as it may have stood before."""
     camel = re.sub(r"_([a-z0-9])", lambda m: m[1].upper(), word)
-    return [s for s in (camel, word.replace("_", "-")) if s != word]
+    return {camel, word.replace("_", "-")} - {word}
 
 
-def renamed(text, before, meant):
-    """The text with each word of meant as the file had it before: one after the other where the words are as many, else the only one that the file had."""
-    places = collections.defaultdict(list)
-    for word in WORD.findall(before):
-        places[word.replace("-", "_") if "-" in word else re.sub(r"([A-Z])", lambda m: "_" + m[1].lower(), word)].append(word)
-    count = collections.Counter(w for w in WORD.findall(text) if w in meant)
-    seen = collections.Counter()
-
-    def turn(match):
-        word = match[0]
-        if word not in meant:
-            return word
-        had = places.get(word, [])
-        seen[word] += 1
-        if len(had) == count[word]:
-            return had[seen[word] - 1]
-        kinds = set(had) or meant[word]
-        return min(kinds) if len(kinds) == 1 else word if word in meant[word] else min(meant[word])
-
-    return WORD.sub(turn, text)
+def meant(word, before, now):
+    """What the word of a text now was in the text before: the spelling that has become rarer, if the word itself is new there; else the word."""
+    rarer = [s for s in spellings(word) if before[s] > now[s]]
+    return rarer[0] if len(rarer) == 1 and not before[word] else word
 
 
 def main(landed):
     paths = subprocess.run(["git", "ls-tree", "-r", "--name-only", landed, "crates"], capture_output=True, text=True, check=True).stdout.split()
-    old = {p: at(landed, p) for p in paths if p.endswith(ENDINGS)}
-    words = set().union(*(WORD.findall(t) for t in old.values()))
-    files = [p for p in pathlib.Path("crates").rglob("*") if p.suffix in ENDINGS]
-    now = {p: p.read_text() for p in files}
-    new = set().union(*(WORD.findall(t) for t in now.values()))
-    meant = {w: {s for s in spellings(w) if s in words} for w in new if "_" in w}
-    meant = {w: s | ({w} & words) for w, s in meant.items() if s}
-    for path, text in now.items():
-        path.write_text(renamed(text, old.get(str(path), ""), meant))
-    print(f"{len(meant)} words have the spelling of {landed[:7]} again")
+    before = {p: words(at(landed, p)) for p in paths if p.endswith(ENDINGS)}
+    files = {str(p): p for p in pathlib.Path("crates").rglob("*") if p.suffix in ENDINGS}
+    now = {p: words(file.read_text()) for p, file in files.items()}
+    everywhere = sum(before.values(), collections.Counter()), sum(now.values(), collections.Counter())
+    turned = set()
+    for path, file in files.items():
+        there = (before[path], now[path]) if path in before else everywhere
+        names = {w: meant(w, *there) for w in now[path] if "_" in w}
+        turned |= {w for w, old in names.items() if old != w}
+        file.write_text(WORD.sub(lambda m: names.get(m[0], m[0]), file.read_text()))
+    print(f"{len(turned)} words have the spelling of {landed[:7]} again")
 
 
 if __name__ == "__main__":
