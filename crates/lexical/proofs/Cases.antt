@@ -16,40 +16,8 @@ split false f g = g refl
 pub clash : {A : Type 0} (b : Bool) → b ≡ true → b ≡ false → A
 clash b h e = let z : ◌≡◌ {A = ℕ} 0 1 = cc in absurd (omega arith)
 
-pub or-left : (a b : Bool) → (a || b) ≡ false → a ≡ false
-or-left true b e = e
-or-left false b e = refl
-
-pub or-right : (a b : Bool) → (a || b) ≡ false → b ≡ false
-or-right true b e = cc
-or-right false b e = e
-
-pub and-left : (a b : Bool) → (a && b) ≡ true → a ≡ true
-and-left true b e = refl
-and-left false b e = e
-
-pub and-right : (a b : Bool) → (a && b) ≡ true → b ≡ true
-and-right true b e = e
-and-right false b e = cc
-
 pub and-both : {a b c d : Bool} → a ≡ b → c ≡ d → (a && c) ≡ (b && d)
 and-both {b = b} {c = c} e f = ap (λ t. t && c) e ∙ ap (λ t. b && t) f
-
-pub and-yes : (a : Bool) → (a && true) ≡ a
-and-yes true = refl
-and-yes false = refl
-
-pub and-no : (a : Bool) → (a && false) ≡ false
-and-no true = refl
-and-no false = refl
-
-pub or-yes : (a : Bool) → (a || true) ≡ true
-or-yes true = refl
-or-yes false = refl
-
-pub or-no : (a : Bool) → (a || false) ≡ a
-or-no true = refl
-or-no false = refl
 
 -- a test that computes to true
 pub holds : (b : Bool) → b ≡ true → T b

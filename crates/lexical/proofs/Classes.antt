@@ -1,8 +1,9 @@
 -- Laws of byte classes that both scanners cite: what begins no attribute name.
 use Rattle.std.proofs.Common.{◌≡◌, ℕ, Bool, true, false, ◌||◌, eqb, refl}
+use Rattle.std.proofs.lemmas.Bool.{or_parts}
 use Rattle.lexical.specs.Text.{byte}
 use Rattle.lexical.specs.Byte.{isLetter, isDigit, isTagNameByte, isAttributeNameByte, isTagBreak, isNameStart, isValueEnd}
-use Rattle.lexical.proofs.Cases.{split, clash, or-left, or-right, excluded}
+use Rattle.lexical.proofs.Cases.{split, clash, excluded}
 
 module _ (digits : Bool) where
   abbrev starts : ℕ → Bool
@@ -11,11 +12,11 @@ module _ (digits : Bool) where
   -- a byte of no name begins none
   pub name-start-no : (x : ℕ) → isAttributeNameByte x ≡ false → starts x ≡ false
   name-start-no x h =
-      let a = or-left (isTagNameByte x) (eqb x (byte "_") || (eqb x (byte ".") || eqb x (byte ":"))) h in
-      let b = or-right (isTagNameByte x) (eqb x (byte "_") || (eqb x (byte ".") || eqb x (byte ":"))) h in
-      let d = or-right (eqb x (byte "-")) (isDigit x || isLetter x) a in
-      let m = or-right (eqb x (byte ".")) (eqb x (byte ":")) (or-right (eqb x (byte "_")) (eqb x (byte ".") || eqb x (byte ":")) b) in
-      simp (or-left (isDigit x) (isLetter x) d, or-right (isDigit x) (isLetter x) d, or-left (eqb x (byte "_")) (eqb x (byte ".") || eqb x (byte ":")) b, m)
+      let a = (or_parts (isTagNameByte x) (eqb x (byte "_") || (eqb x (byte ".") || eqb x (byte ":"))) h).0 in
+      let b = (or_parts (isTagNameByte x) (eqb x (byte "_") || (eqb x (byte ".") || eqb x (byte ":"))) h).1 in
+      let d = (or_parts (eqb x (byte "-")) (isDigit x || isLetter x) a).1 in
+      let m = (or_parts (eqb x (byte ".")) (eqb x (byte ":")) (or_parts (eqb x (byte "_")) (eqb x (byte ".") || eqb x (byte ":")) b).1).1 in
+      simp ((or_parts (isDigit x) (isLetter x) d).0, (or_parts (isDigit x) (isLetter x) d).1, (or_parts (eqb x (byte "_")) (eqb x (byte ".") || eqb x (byte ":")) b).0, m)
 
   -- a byte that begins a name ends no value, and is no break
   starts-not : (f : ℕ → Bool) (x : ℕ) → f x ≡ true → (starts x ≡ true → f x ≡ false) → starts x ≡ false

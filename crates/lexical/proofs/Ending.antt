@@ -1,43 +1,50 @@
 -- Laws of line endings at an index of a text: what they are by the byte there and the one after it, and that they end within the text.
-use Rattle.std.proofs.Common.{◌≡◌, ℕ, zero, suc, ◌+◌, ◌-◌, ◌<◌, ◌≤◌, Bool, true, false, not, eqb, List, [], ◌∷◌, length, get_or, drop, refl, ap, sub-one, arith, length-drop, drop-drop}
+use Rattle.std.proofs.Common.{◌≡◌, ℕ, zero, suc, ◌+◌, ◌-◌, ◌<◌, ◌≤◌, Bool, true, false, not, eqb, List, [], ◌∷◌, length, drop, refl, ap, sub-one, arith, length-drop, drop-drop, ne_eqb}
+use Rattle.std.proofs.lemmas.List.{drop_all, drop_more}
+use Rattle.std.proofs.lemmas.Bool.{or_parts}
 use Rattle.lexical.specs.Text.{byte, pick, first, run}
 use Rattle.lexical.specs.Byte.{isSpaceOrTab, isLineEndingByte}
 use Rattle.lexical.specs.Line.{lineEnding, endsLine, lineEndings, lines, isLineStart, lineLength, atLineEnd, isBlank}
-use Rattle.lexical.proofs.Cases.{split, or-left, or-right}
-use Rattle.lexical.proofs.Suffix.{suffix-in, suffix-out}
+use Rattle.lexical.proofs.Cases.{split}
 use Rattle.lexical.proofs.Run.{behind-at}
 use borrow.Author.Tests.{not-true}
 
 module _ (s : List ℕ) (i : ℕ) where
-  pub ending-in : i < length s
-      → lineEnding (drop i s)
-      ≡ pick (eqb (get_or s i 0) (byte "\n")) 1
-      (pick (eqb (get_or s i 0) (byte "\r")) (pick (eqb (first (drop (i + 1) s)) (byte "\n")) 2 1) 0)
+  -- by the byte there
+  pub ending-lf : first (drop i s) ≡ byte "\n" → lineEnding (drop i s) ≡ 1
   unfolding lineEnding
-  ending-in h = rw (suffix-in s i h)
+  ending-lf e = rw e
+
+  pub ending-cr : first (drop i s) ≡ byte "\r" → lineEnding (drop i s) ≡ pick (eqb (first (drop (i + 1) s)) (byte "\n")) 2 1
+  unfolding lineEnding
+  ending-cr e = rw (e, drop-drop 1 i s)
+
+  pub ending-other : (first (drop i s) ≡ byte "\n" → ⊥) → (first (drop i s) ≡ byte "\r" → ⊥) → lineEnding (drop i s) ≡ 0
+  unfolding lineEnding
+  ending-other l r = rw (ne_eqb _ _ l, ne_eqb _ _ r)
 
   pub ending-out : length s ≤ i → lineEnding (drop i s) ≡ 0
   unfolding lineEnding
-  ending-out h = rw (suffix-out s i h)
+  ending-out h = rw (drop_all i s h)
 
   pub ends-out : length s ≤ i → endsLine (drop i s) ≡ false
   unfolding endsLine
-  ends-out h = rw (suffix-out s i h)
+  ends-out h = rw (drop_all i s h)
 
   -- a byte is counted where it ends a line
   pub count-in : (b : Bool) → i < length s → endsLine (drop i s) ≡ b → lineEndings (drop i s) ≡ pick b (suc (lineEndings (drop (i + 1) s))) (lineEndings (drop (i + 1) s))
   unfolding lineEndings
-  count-in b h e = let t = rw (suffix-in s i h) at e in rw (suffix-in s i h, t)
+  count-in b h e = let t = rw (drop_more s i 0 h) at e in rw (drop_more s i 0 h, t)
 
   pub count-out : length s ≤ i → lineEndings (drop i s) ≡ 0
   unfolding lineEndings
-  count-out h = rw (suffix-out s i h)
+  count-out h = rw (drop_all i s h)
 
 -- ---- counting from ending to ending
 -- no byte of a line's content ends it
 inner-none : (x : ℕ) (xs : List ℕ) → isLineEndingByte x ≡ false → endsLine (x ∷ xs) ≡ false
 unfolding endsLine
-inner-none x xs h = rw (or-left (eqb x (byte "\n")) (eqb x (byte "\r")) h, or-right (eqb x (byte "\n")) (eqb x (byte "\r")) h)
+inner-none x xs h = rw ((or_parts (eqb x (byte "\n")) (eqb x (byte "\r")) h).0, (or_parts (eqb x (byte "\n")) (eqb x (byte "\r")) h).1)
 
 content-none : (x : ℕ) (xs : List ℕ) → not (isLineEndingByte x) ≡ true → lineEndings (x ∷ xs) ≡ lineEndings xs
 unfolding lineEndings
@@ -81,9 +88,3 @@ start-after s (suc i) h = rw (sub-one)
 pub blank-at : (s : List ℕ) (i : ℕ) → isBlank (drop i s) ≡ atLineEnd (drop (i + run isSpaceOrTab (drop i s)) s)
 unfolding isBlank
 blank-at s i = ap atLineEnd (drop-drop (run isSpaceOrTab (drop i s)) i s)
-
-pub line-end-in : (s : List ℕ) (i : ℕ) → i < length s → atLineEnd (drop i s) ≡ isLineEndingByte (get_or s i 0)
-line-end-in s i h = rw (suffix-in s i h)
-
-pub line-end-out : (s : List ℕ) (i : ℕ) → length s ≤ i → atLineEnd (drop i s) ≡ true
-line-end-out s i h = rw (suffix-out s i h)

@@ -1,10 +1,11 @@
 -- Names by their first letter: in a list by letter those that begin with a byte stand side by side, where the list's starts say.
 use Rattle.std.proofs.Common.{◌≡◌, ℕ, zero, suc, ◌+◌, ◌-◌, ◌<◌, ◌≤◌, Bool, true, false, eqb, ltb, leb, List, [], ◌∷◌, length, get_or, take, drop, sym, refl, ap, arith, ltb-false, ltb-true, le-ltb, lt-ltb, eq-eqb, ne_eqb, le-leb, leb-true}
+use Rattle.std.proofs.lemmas.Bool.{and_parts}
 use borrow.Author.Tests.{lt-leb}
 use Rattle.lexical.specs.Text.{byte, first}
 use Rattle.lexical.specs.Byte.{within}
 use Rattle.lexical.specs.Name.{all, chain, beginningWith, Exactly, namesBelow, startsFrom, letters, letterStarts, byLetter, GoesTo}
-use Rattle.lexical.proofs.Cases.{split, excluded, and-left, and-right}
+use Rattle.lexical.proofs.Cases.{split, excluded}
 use Rattle.lexical.proofs.Table.{chain-tail}
 
 -- ---- side by side
@@ -19,24 +20,24 @@ behind : (b : ℕ) (x : List ℕ) (xs : List (List ℕ)) → chain inOrder (x �
 unfolding all chain
 behind b x [] e h = rw (le-leb b (first x) h)
 behind b x (y ∷ ys) e h =
-    let s : first x ≤ first y = leb-true (first x) (first y) (and-left (inOrder x y) (chain inOrder (y ∷ ys)) e) in
-    rw (le-leb b (first x) h) (behind b y ys (and-right (inOrder x y) (chain inOrder (y ∷ ys)) e) (omega arith))
+    let s : first x ≤ first y = leb-true (first x) (first y) (and_parts (inOrder x y) (chain inOrder (y ∷ ys)) e).0 in
+    rw (le-leb b (first x) h) (behind b y ys (and_parts (inOrder x y) (chain inOrder (y ∷ ys)) e).1 (omega arith))
 
 -- names of which none begins with a byte below b
 none-below : (b : ℕ) (names : List (List ℕ)) → from-byte b names ≡ true → namesBelow b names ≡ 0
 unfolding all namesBelow
 none-below b [] e = refl
 none-below b (x ∷ xs) e =
-    let h : b ≤ first x = leb-true b (first x) (and-left (leb b (first x)) (from-byte b xs) e) in
-    rw (le-ltb (first x) b h) (none-below b xs (and-right (leb b (first x)) (from-byte b xs) e))
+    let h : b ≤ first x = leb-true b (first x) (and_parts (leb b (first x)) (from-byte b xs) e).0 in
+    rw (le-ltb (first x) b h) (none-below b xs (and_parts (leb b (first x)) (from-byte b xs) e).1)
 
 -- names whose first bytes all pass a test that b does not: none begins with b
 none-begins : (f : ℕ → Bool) (b : ℕ) (names : List (List ℕ)) → all (λ x. f (first x)) names ≡ true → f b ≡ false → beginningWith b names ≡ []
 unfolding all beginningWith
 none-begins f b [] h e = refl
 none-begins f b (x ∷ xs) h e =
-    let d : eqb (first x) b ≡ false = excluded f b (first x) e (and-left (f (first x)) (all (λ y. f (first y)) xs) h) in
-    rw d (none-begins f b xs (and-right (f (first x)) (all (λ y. f (first y)) xs) h) e)
+    let d : eqb (first x) b ≡ false = excluded f b (first x) e (and_parts (f (first x)) (all (λ y. f (first y)) xs) h).0 in
+    rw d (none-begins f b xs (and_parts (f (first x)) (all (λ y. f (first y)) xs) h).1 e)
 
 -- the names from where those of a byte begin to where those of the next do are those that begin with it
 abbrev SideBySide : ℕ → List (List ℕ) → Type 0
@@ -52,7 +53,7 @@ module _ (b : ℕ) (x : List ℕ) (xs : List (List ℕ)) (e : chain inOrder (x �
   begins-so : first x ≡ b → SideBySide b (x ∷ xs)
   unfolding namesBelow beginningWith all
   begins-so h =
-      let n : namesBelow b xs ≡ 0 = none-below b xs (and-right (leb b (first x)) (from-byte b xs) (behind b x xs e (omega arith))) in
+      let n : namesBelow b xs ≡ 0 = none-below b xs (and_parts (leb b (first x)) (from-byte b xs) (behind b x xs e (omega arith))).1 in
       let z : suc (namesBelow (suc b) xs) - 0 ≡ suc (namesBelow (suc b) xs) = omega arith in
       let y : namesBelow (suc b) xs - 0 ≡ namesBelow (suc b) xs = omega arith in
       rw (le-ltb (first x) b (omega arith), lt-ltb (first x) (suc b) (omega arith), eq-eqb (first x) b h, n, z) (ap (λ l. x ∷ l) (rw (n, y) at rest))
@@ -109,7 +110,7 @@ module _ (names : List (List ℕ)) (e : byLetter names ≡ true) where
 
   pub begin-lower : lettered ≡ true
   unfolding byLetter
-  begin-lower = and-left lettered ordered e
+  begin-lower = (and_parts lettered ordered e).0
 
   -- from where a letter begins to where the next does
   at-letter : (k : ℕ) → k < letters → Exactly names (byte "a" + k) (get_or (letterStarts names) k 0) (get_or (letterStarts names) (k + 1) 0)
@@ -117,7 +118,7 @@ module _ (names : List (List ℕ)) (e : byLetter names ≡ true) where
   at-letter k h =
       let z : byte "a" + (k + 1) ≡ suc (byte "a" + k) = omega arith in
       rw (starts-at letters (byte "a") names k (omega arith), starts-at letters (byte "a") names (k + 1) (omega arith), z)
-      (record { forward = below-more (byte "a" + k) names; inside = below-all (suc (byte "a" + k)) names; same = side-by-side (byte "a" + k) names (and-right lettered ordered e) })
+      (record { forward = below-more (byte "a" + k) names; inside = below-all (suc (byte "a" + k)) names; same = side-by-side (byte "a" + k) names (and_parts lettered ordered e).1 })
 
   -- and nowhere where it is none
   pub at-no-letter : (b : ℕ) → isLower b ≡ false → Exactly names b 0 0
@@ -126,12 +127,12 @@ module _ (names : List (List ℕ)) (e : byLetter names ≡ true) where
 -- which of the letters a byte is
 module _ (b : ℕ) (h : isLower b ≡ true) where
   pub letter-least : byte "a" ≤ b
-  letter-least = leb-true (byte "a") b (and-left (leb (byte "a") b) (leb b (byte "z")) h)
+  letter-least = leb-true (byte "a") b (and_parts (leb (byte "a") b) (leb b (byte "z")) h).0
 
   pub letter-most : b ≤ byte "z"
-  letter-most = leb-true b (byte "z") (and-right (leb (byte "a") b) (leb b (byte "z")) h)
+  letter-most = leb-true b (byte "z") (and_parts (leb (byte "a") b) (leb b (byte "z")) h).1
 
--- 02, Ask 3, as the lookup goes: it has the byte c, which is b
+-- as the lookup goes: it has the byte c, which is b
 module _ (starts : List ℕ) (b c : ℕ) (same : c ≡ b) where
   pub goes-letter : isLower c ≡ true → GoesTo starts b (get_or starts (c - byte "a") 0) (get_or starts (c - byte "a" + 1) 0)
   goes-letter h names order begin =

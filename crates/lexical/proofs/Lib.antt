@@ -13,4 +13,5 @@ pub mod Names
 pub mod Letters
 pub mod Lookup
 pub mod Members
+pub mod Peek
 pub mod Prefix

@@ -1,12 +1,12 @@
--- The lookup by the first letter: only the names that begin as a name does can be it; the offsets between their places cut just them; and so its place among them is
--- its place in the list.
-use Rattle.std.proofs.Common.{◌≡◌, ℕ, zero, suc, ◌+◌, ◌-◌, ◌<◌, ◌≤◌, true, false, eqb, ltb, leb, List, [], ◌∷◌, ◌++◌, map, length, get_or, take, drop, sym, refl, ap, ◌∙◌, append-nil, arith, length-append, length-drop, take-append-drop, drop_of_length-le, length-take, length-take-le, eq-eqb}
+-- The lookup by the first letter: only the names that begin as a name does can be it, and so its place among them is its place in the list. They are compared one
+-- by one; each is what the offsets at its place cut.
+use Rattle.std.proofs.Common.{◌≡◌, ℕ, zero, suc, ◌+◌, ◌-◌, ◌<◌, ◌≤◌, true, false, eqb, List, [], ◌∷◌, ◌++◌, map, length, get_or, take, drop, sym, refl, ap, ◌∙◌, append-nil, add-one, arith, length-append, take-append-drop, drop_of_length-le, drop-cons, length-take-le, eq-eqb, slice_range}
 use Rattle.lexical.specs.Text.{first, none}
 use Rattle.lexical.specs.Byte.{lower}
-use Rattle.lexical.specs.Name.{all, chain, sameBytes, placeFrom, unnamed, cut, rising, beginningWith, Exactly, letters, letterStarts, startsFrom, GoesTo, LetterTable}
-use Rattle.lexical.proofs.Cases.{split, clash, and-left, and-right}
+use Rattle.lexical.specs.Name.{sameBytes, placeFrom, unnamed, cut, beginningWith, Exactly, letters, letterStarts, startsFrom, GoesTo, LetterTable}
+use Rattle.lexical.proofs.Cases.{split, clash}
 use Rattle.lexical.proofs.Same.{same-equal}
-use Rattle.lexical.proofs.Table.{all-part, chain-part}
+use Rattle.lexical.proofs.Names.{rises, within-table}
 use Rattle.lexical.proofs.Letters.{at-no-letter}
 
 -- ---- only they can be the name
@@ -81,29 +81,44 @@ module _ (names : List (List ℕ)) (b from to : ℕ) (e : Exactly names b from t
       before : 0 + length front ≡ from
       before = omega (arith, length-take-le from names (omega (arith, e.forward, e.inside)))
 
--- ---- a part of the offsets cuts a part of the names
-module _ (table : List ℕ) where
-  cut-drop : (k : ℕ) (offsets : List ℕ) → cut table (drop k offsets) ≡ drop k (cut table offsets)
-  unfolding cut
-  cut-drop zero offsets = refl
-  cut-drop (suc k) [] = refl
-  cut-drop (suc zero) (a ∷ []) = refl
-  cut-drop (suc (suc k)) (a ∷ []) = refl
-  cut-drop (suc k) (a ∷ b ∷ rest) = cut-drop k (b ∷ rest)
+-- ---- among the names from one place up to another
+module _ (names : List (List ℕ)) (n : List ℕ) (i to : ℕ) where
+  abbrev pub placeAmong : ℕ
+  placeAmong = placeFrom i n (take (to - i) (drop i names))
 
-  cut-take : (m : ℕ) (offsets : List ℕ) → cut table (take (suc m) offsets) ≡ take m (cut table offsets)
-  unfolding cut
-  cut-take zero [] = refl
-  cut-take zero (a ∷ rest) = refl
-  cut-take (suc m) [] = refl
-  cut-take (suc m) (a ∷ []) = refl
-  cut-take (suc m) (a ∷ b ∷ rest) = ap (λ l. take (b - a) (drop a table) ∷ l) (cut-take m (b ∷ rest))
+  -- the first of them is it, or it is looked for behind
+  module _ (h : i < to) (l : to ≤ length names) where
+    among : take (to - i) (drop i names) ≡ get_or names i [] ∷ take (to - (i + 1)) (drop (i + 1) names)
+    among =
+        let z : to - i ≡ suc (to - (i + 1)) = omega arith in
+        rw (z, add-one, drop-cons names i [] (omega arith)) refl
 
-  -- the names between two places
-  cut-part : (k m : ℕ) (offsets : List ℕ) → cut table (take (suc m) (drop k offsets)) ≡ take m (drop k (cut table offsets))
-  cut-part k m offsets = cut-take m (drop k offsets) ∙ ap (take m) (cut-drop k offsets)
+    pub hit : sameBytes n (get_or names i []) ≡ true → placeAmong ≡ i
+    unfolding placeFrom
+    hit t = ap (placeFrom i n) among ∙ rw t
+
+    pub miss : sameBytes n (get_or names i []) ≡ false → placeFrom (i + 1) n (take (to - (i + 1)) (drop (i + 1) names)) ≡ placeAmong
+    unfolding placeFrom
+    miss t = let z : i + 1 ≡ suc i = omega arith in sym (ap (placeFrom i n) among ∙ rw (t, z))
+
+  pub no-more : to ≤ i → placeAmong ≡ unnamed
+  unfolding placeFrom
+  no-more h = let z : to - i ≡ 0 = omega arith in rw z
 
 -- ---- as the code has them
+-- the part between an offset and the next is the name there
+cut-at : (table offsets : List ℕ) (k : ℕ) → k + 1 < length offsets → slice_range table (get_or offsets k 0) (get_or offsets (k + 1) 0) ≡ get_or (cut table offsets) k []
+unfolding cut
+cut-at table [] k h = absurd (omega arith)
+cut-at table (a ∷ []) k h = absurd (omega arith)
+cut-at table (a ∷ b ∷ rest) zero h = refl
+cut-at table (a ∷ b ∷ rest) (suc k) h = let z : suc k + 1 ≡ suc (k + 1) = omega arith in rw z (cut-at table (b ∷ rest) k (omega arith))
+
+-- the first byte of a name in lower case
+begins : (n : List ℕ) → (length n ≡ 0 → ⊥) → first (map lower n) ≡ lower (get_or n 0 0)
+begins [] h = absurd (h refl)
+begins (x ∷ xs) h = refl
+
 module _ (table offsets starts : List ℕ) (t : LetterTable table offsets starts) where
   abbrev names : List (List ℕ)
   names = cut table offsets
@@ -116,40 +131,30 @@ module _ (table offsets starts : List ℕ) (t : LetterTable table offsets starts
   unfolding placeFrom
   no-name name e = rw (drop_of_length-le name {i = 0} (omega (arith, e))) (sym (place-at names none 0 0 (at-no-letter names t.order none refl) [] refl))
 
-  -- any part of the offsets
-  module _ (k m : ℕ) where
-    pub part-rises : rising (length table) (take m (drop k offsets)) ≡ true
-    unfolding rising
-    part-rises =
-        let below = and-left (all (λ o. leb o (length table)) offsets) (chain ltb offsets) t.rise in
-        let strict = and-right (all (λ o. leb o (length table)) offsets) (chain ltb offsets) t.rise in
-        rw (all-part (λ o. leb o (length table)) k m offsets below) (chain-part ltb k m offsets strict)
+  -- the name at a place
+  module _ (k : ℕ) (h : k < length names) where
+    pub forward : get_or offsets k 0 < get_or offsets (k + 1) 0
+    forward = rises (length table) offsets t.rise k (omega (arith, t.counted))
 
-    pub part-few : k < length offsets → k + length (take m (drop k offsets)) ≤ unnamed
-    part-few h = omega (arith, length-take m (drop k offsets), length-drop k offsets, t.few)
+    pub inside : get_or offsets (k + 1) 0 ≤ length table
+    inside = within-table (length table) offsets t.rise k (omega (arith, t.counted))
 
-  -- the places of the names that begin with a byte, and the offsets that cut them
-  module _ (b from to : ℕ) (g : GoesTo starts b from to) where
-    exact : Exactly names b from to
+    pub name-is : slice_range table (get_or offsets k 0) (get_or offsets (k + 1) 0) ≡ get_or names k []
+    name-is = cut-at table offsets k (omega (arith, t.counted))
+
+    pub few : k < unnamed
+    few = omega (arith, t.counted, t.few)
+
+  -- the places of the names that begin as a name does
+  module _ (name : List ℕ) (from to : ℕ) (g : GoesTo starts (lower (get_or name 0 0)) from to) (some : length name ≡ 0 → ⊥) where
+    exact : Exactly names (lower (get_or name 0 0)) from to
     exact = g names t.order t.begin
 
-    pub forward : from ≤ to
-    forward = exact.forward
+    pub up : from ≤ to
+    up = exact.forward
 
-    pub inside : to < length offsets
-    inside = omega (arith, exact.inside, t.counted)
+    pub there : to ≤ length names
+    there = exact.inside
 
-    place-among : (n : List ℕ) → first n ≡ b → placeFrom from n (cut table (take (to + 1 - from) (drop from offsets))) ≡ placeFrom 0 n names
-    place-among n f =
-        let z : to + 1 - from ≡ suc (to - from) = omega (arith, exact.forward) in
-        ap (λ k. placeFrom from n (cut table (take k (drop from offsets)))) z
-        ∙ ap (placeFrom from n) (cut-part table from (to - from) offsets)
-        ∙ sym (place-at names b from to exact n f)
-
-  -- the first byte of a name in lower case
-  begins : (n : List ℕ) → (length n ≡ 0 → ⊥) → first (map lower n) ≡ lower (get_or n 0 0)
-  begins [] h = absurd (h refl)
-  begins (x ∷ xs) h = refl
-
-  pub place-is : (name : List ℕ) (from to : ℕ) → GoesTo starts (lower (get_or name 0 0)) from to → (length name ≡ 0 → ⊥) → placeFrom from (map lower name) (cut table (take (to + 1 - from) (drop from offsets))) ≡ placeFrom 0 (map lower name) names
-  place-is name from to g some = place-among (lower (get_or name 0 0)) from to g (map lower name) (begins name some)
+    pub place-is : placeAmong names (map lower name) from to ≡ placeFrom 0 (map lower name) names
+    place-is = sym (place-at names (lower (get_or name 0 0)) from to exact (map lower name) (begins name some))

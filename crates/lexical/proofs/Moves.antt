@@ -1,11 +1,11 @@
 -- Laws of points: what moving does at an index of a text, by the byte there and the one after it.
-use Rattle.std.proofs.Common.{◌≡◌, ℕ, zero, suc, ◌+◌, ◌-◌, ◌<◌, ◌≤◌, eqb, ltb, List, length, get_or, drop, sym, refl, ap, ◌∙◌, add-zero, suc-add, zero-add, arith, ltb-false, ltb-true}
+use Rattle.std.proofs.Common.{◌≡◌, ℕ, zero, suc, ◌+◌, ◌-◌, ◌<◌, ◌≤◌, min, eqb, ltb, List, length, get_or, drop, sym, refl, ap, ◌∙◌, add-zero, suc-add, zero-add, arith, ltb-false, ltb-true}
+use Rattle.std.proofs.lemmas.List.{drop_all, drop_more}
 use Rattle.lexical.specs.Text.{byte, pick, first}
 use Rattle.lexical.specs.Line.{endsLine}
 use Rattle.lexical.specs.Point.{tabReadings, tabRead, lastReading, earlierReading, skipped, noByte, actionAt, nextLine, nextByte, skipByte, passed, movedBy, start, pointAt}
 use Rattle.lexical.specs.declared.event.Point.{Point}
 use Rattle.lexical.proofs.Cases.{split}
-use Rattle.lexical.proofs.Suffix.{suffix-in, suffix-out}
 
 module _ (p : Point) (s : List ℕ) (i : ℕ) where
   pub action-in : i < length s
@@ -15,11 +15,11 @@ module _ (p : Point) (s : List ℕ) (i : ℕ) where
       (pick (eqb (tabReadings p.column) 1) (lastReading (tabRead p.vs)) (earlierReading (tabRead p.vs)))
       (lastReading (get_or s i 0)))
   unfolding actionAt
-  action-in h = rw (suffix-in s i h)
+  action-in h = rw (drop_more s i 0 h)
 
   pub action-out : length s ≤ i → actionAt p (drop i s) ≡ noByte
   unfolding actionAt
-  action-out h = rw (suffix-out s i h)
+  action-out h = rw (drop_all i s h)
 
   pub passed-in : i < length s
       → passed p (drop i s)
@@ -27,17 +27,17 @@ module _ (p : Point) (s : List ℕ) (i : ℕ) where
       (pick (eqb (get_or s i 0) (byte "\r")) (skipByte p)
       (pick (eqb (get_or s i 0) (byte "\t")) (nextByte p (tabReadings p.column)) (nextByte p 1)))
   unfolding passed
-  passed-in h = rw (suffix-in s i h)
+  passed-in h = rw (drop_more s i 0 h)
 
   -- n bytes on from i, past the byte at i
   pub moved-in : (n : ℕ) → i < length s → movedBy (suc n) p (drop i s) ≡ movedBy n (passed p (drop i s)) (drop (i + 1) s)
   unfolding movedBy
-  moved-in n h = rw (suffix-in s i h)
+  moved-in n h = rw (drop_more s i 0 h)
 
   pub moved-out : (n : ℕ) → length s ≤ i → movedBy n p (drop i s) ≡ p
   unfolding movedBy
   moved-out zero h = refl
-  moved-out (suc n) h = rw (suffix-out s i h)
+  moved-out (suc n) h = rw (drop_all i s h)
 
 -- one turn of a loop that moves to an index
 pub turn : (p : Point) (s : List ℕ) (i index : ℕ) → i < index → i < length s
@@ -46,9 +46,12 @@ turn p s i index l h =
     let e : index - i ≡ suc (index - (i + 1)) = omega arith in
     ap (λ n. movedBy n p (drop i s)) e ∙ moved-in p s i (index - (i + 1)) h
 
-pub arrived : (p : Point) (s : List ℕ) (i index : ℕ) → index ≤ i → movedBy (index - i) p s ≡ p
+-- there are no more bytes to pass
+pub arrived : (p : Point) (s : List ℕ) (i index : ℕ) → min index (length s) ≤ i → movedBy (index - i) p (drop i s) ≡ p
 unfolding movedBy
-arrived p s i index h = let e : index - i ≡ 0 = omega arith in ap (λ n. movedBy n p s) e
+arrived p s i index h =
+    split (ltb i index) (λ t. let l = ltb-true i index t in moved-out p s i (index - i) (omega arith))
+    (λ t. let l = ltb-false i index t in let e : index - i ≡ 0 = omega arith in ap (λ n. movedBy n p (drop i s)) e)
 
 -- ---- the point at an index of a text
 module _ (text : List ℕ) where

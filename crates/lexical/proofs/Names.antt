@@ -1,12 +1,12 @@
 -- The tables of names. One computed test says of each that their bytes are lower case letters or digits, their names are in order and by letter, their
--- offsets rise and cut just the names, and these are few enough for a place to be a byte; the laws turn it into the rule at each entry. Then the lookup: one turn
--- compares a name with the part between two offsets; and what the place that it gives says of the name.
-use Rattle.std.proofs.Common.{◌≡◌, ℕ, suc, ◌+◌, ◌-◌, ◌<◌, ◌≤◌, Bool, true, false, not, ◌&&◌, ◌||◌, eqb, ltb, leb, List, [], ◌∷◌, map, length, get_or, take, drop, sym, refl, ap, ◌∙◌, arith, ltb-false, ltb-true, ne_eqb, leb-true}
+-- offsets rise and cut just the names, and these are few enough for a place to be a byte; the laws turn it into the rule at each entry. And what a place says of
+-- the name.
+use Rattle.std.proofs.Common.{◌≡◌, ℕ, suc, ◌+◌, ◌-◌, ◌<◌, ◌≤◌, Bool, true, false, not, ◌&&◌, ◌||◌, eqb, ltb, leb, List, [], ◌∷◌, map, length, get_or, sym, refl, ap, ◌∙◌, arith, ltb-true, ne_eqb, leb-true, Some, is_some}
+use Rattle.std.proofs.lemmas.Bool.{and_parts}
 use Rattle.lexical.specs.Byte.{within, isDigit, lower}
 use Rattle.lexical.specs.Text.{byte}
-use Rattle.lexical.specs.Name.{blockNames, rawNames, disallowedNames, sameBytes, isMember, isBlockName, isRawName, isDisallowedName, unnamed, placeFrom, blockPlace, rawPlace, StandsAt, nameBytes, nameOffsets, cut, all, chain, rising, letterStarts, byLetter, LetterTable}
-use Rattle.lexical.proofs.Cases.{and-left, and-right, split, clash}
-use Rattle.lexical.proofs.Suffix.{suffix-in, suffix-out}
+use Rattle.lexical.specs.Name.{blockNames, rawNames, disallowedNames, sameBytes, isMember, isBlockName, isRawName, isDisallowedName, unnamed, named, placeFrom, blockPlace, rawPlace, StandsAt, nameBytes, nameOffsets, cut, all, chain, rising, letterStarts, byLetter, LetterTable}
+use Rattle.lexical.proofs.Cases.{split, clash}
 use Rattle.lexical.proofs.Same.{same-equal}
 use Rattle.lexical.proofs.Table.{all-at, chain-at}
 
@@ -33,8 +33,8 @@ same-names [] [] e = refl
 same-names [] (y ∷ ys) e = cc
 same-names (x ∷ xs) [] e = cc
 same-names (x ∷ xs) (y ∷ ys) e =
-    let p : x ≡ y = same-equal x y (and-left (sameBytes x y) (sameNames xs ys) e) in
-    let q : xs ≡ ys = same-names xs ys (and-right (sameBytes x y) (sameNames xs ys) e) in
+    let p : x ≡ y = same-equal x y (and_parts (sameBytes x y) (sameNames xs ys) e).0 in
+    let q : xs ≡ ys = same-names xs ys (and_parts (sameBytes x y) (sameNames xs ys) e).1 in
     cc
 
 -- the offsets of a list of names cut just those names
@@ -60,7 +60,7 @@ raw-sound = all-at [] sound (blockNames ∷ rawNames ∷ disallowedNames ∷ [])
 pub disallowed-sound : sound disallowedNames ≡ true
 disallowed-sound = all-at [] sound (blockNames ∷ rawNames ∷ disallowedNames ∷ []) tables-sound 2 (omega arith)
 
--- 01: 62 names and 4; 294 bytes, 63 offsets
+-- 62 names and 4; 294 bytes, 63 offsets
 pub block-count : length blockNames ≡ 62
 unfolding blockNames
 block-count = refl
@@ -98,39 +98,39 @@ module _ (names : List (List ℕ)) (e : sound names ≡ true) where
 
   behind-lows : (order && (rise && (cuts names && (byLetter names && few)))) ≡ true
   unfolding sound
-  behind-lows = and-right lows (order && (rise && (cuts names && (byLetter names && few)))) e
+  behind-lows = (and_parts lows (order && (rise && (cuts names && (byLetter names && few)))) e).1
 
   behind-order : (rise && (cuts names && (byLetter names && few))) ≡ true
-  behind-order = and-right order (rise && (cuts names && (byLetter names && few))) behind-lows
+  behind-order = (and_parts order (rise && (cuts names && (byLetter names && few))) behind-lows).1
 
   behind-rise : (cuts names && (byLetter names && few)) ≡ true
-  behind-rise = and-right rise (cuts names && (byLetter names && few)) behind-order
+  behind-rise = (and_parts rise (cuts names && (byLetter names && few)) behind-order).1
 
   behind-cuts : (byLetter names && few) ≡ true
-  behind-cuts = and-right (cuts names) (byLetter names && few) behind-rise
+  behind-cuts = (and_parts (cuts names) (byLetter names && few) behind-rise).1
 
   pub lower-at : (k : ℕ) → k < length (nameBytes names) → isLowerByte (get_or (nameBytes names) k 0) ≡ true
   unfolding sound
-  lower-at k h = all-at 0 isLowerByte (nameBytes names) (and-left lows (order && (rise && (cuts names && (byLetter names && few)))) e) k h
+  lower-at k h = all-at 0 isLowerByte (nameBytes names) (and_parts lows (order && (rise && (cuts names && (byLetter names && few)))) e).0 k h
 
   pub order-at : (k : ℕ) → k + 1 < length names → before (get_or names k []) (get_or names (k + 1) []) ≡ true
-  order-at k h = chain-at [] before names (and-left order (rise && (cuts names && (byLetter names && few))) behind-lows) k h
+  order-at k h = chain-at [] before names (and_parts order (rise && (cuts names && (byLetter names && few))) behind-lows).0 k h
 
   pub offsets-rise : rise ≡ true
-  offsets-rise = and-left rise (cuts names && (byLetter names && few)) behind-order
+  offsets-rise = (and_parts rise (cuts names && (byLetter names && few)) behind-order).0
 
   pub cut-is : cut (nameBytes names) (nameOffsets 0 names) ≡ names
-  cut-is = same-names (cut (nameBytes names) (nameOffsets 0 names)) names (and-left (cuts names) (byLetter names && few) behind-rise)
+  cut-is = same-names (cut (nameBytes names) (nameOffsets 0 names)) names (and_parts (cuts names) (byLetter names && few) behind-rise).0
 
   pub by-letter : byLetter names ≡ true
-  by-letter = and-left (byLetter names) few behind-cuts
+  by-letter = (and_parts (byLetter names) few behind-cuts).0
 
   pub count-fits : length names < unnamed
-  count-fits = ltb-true (length names) unnamed (and-right (byLetter names) few behind-cuts)
+  count-fits = ltb-true (length names) unnamed (and_parts (byLetter names) few behind-cuts).1
 
   -- a table as the code has it
   module _ (table offsets starts : List ℕ) (t : table ≡ nameBytes names) (o : offsets ≡ nameOffsets 0 names) (s : starts ≡ letterStarts names) where
-    names-are : cut table offsets ≡ names
+    pub names-are : cut table offsets ≡ names
     names-are = rw (t, o, cut-is)
 
     offsets-count : length offsets ≡ suc (length names)
@@ -146,55 +146,22 @@ module _ (names : List (List ℕ)) (e : sound names ≡ true) where
           begin = s ∙ ap letterStarts (sym names-are);
         }
 
-    pub place-in-list : (n : List ℕ) → placeFrom 0 n (cut table offsets) ≡ placeFrom 0 n names
-    place-in-list n = ap (placeFrom 0 n) names-are
-
 -- what rising offsets say of each
 module _ (n : ℕ) (offsets : List ℕ) (e : rising n offsets ≡ true) (k : ℕ) (h : k + 1 < length offsets) where
   pub rises : get_or offsets k 0 < get_or offsets (k + 1) 0
   unfolding rising
-  rises = ltb-true _ _ (chain-at 0 ltb offsets (and-right (all (λ o. leb o n) offsets) (chain ltb offsets) e) k h)
+  rises = ltb-true _ _ (chain-at 0 ltb offsets (and_parts (all (λ o. leb o n) offsets) (chain ltb offsets) e).1 k h)
 
   pub within-table : get_or offsets (k + 1) 0 ≤ n
   unfolding rising
-  within-table = leb-true _ _ (all-at 0 (λ o. leb o n) offsets (and-left (all (λ o. leb o n) offsets) (chain ltb offsets) e) (k + 1) h)
+  within-table = leb-true _ _ (all-at 0 (λ o. leb o n) offsets (and_parts (all (λ o. leb o n) offsets) (chain ltb offsets) e).0 (k + 1) h)
 
--- ---- the lookup
--- the names that a table and its offsets cut, from offset k on: the one between it and the next, and those behind
-module _ (table offsets : List ℕ) (k : ℕ) where
-  abbrev pub namesFrom : List (List ℕ)
-  namesFrom = cut table (drop k offsets)
+-- ---- a place, if it is one
+pub named-place : (n : ℕ) → n < unnamed → named n ≡ Some n
+named-place n h = rw (ne_eqb n unnamed (λ z. omega arith))
 
-  abbrev pub part : List ℕ
-  part = take (get_or offsets (k + 1) 0 - get_or offsets k 0) (drop (get_or offsets k 0) table)
-
-  pub names-in : k + 1 < length offsets → namesFrom ≡ part ∷ cut table (drop (k + 1) offsets)
-  unfolding cut
-  names-in h = let l : k < length offsets = omega arith in rw (suffix-in offsets k l, suffix-in offsets (k + 1) h)
-
-  pub names-out : length offsets ≤ k + 1 → namesFrom ≡ []
-  unfolding cut
-  names-out h =
-      split (ltb k (length offsets)) (λ t. rw (suffix-in offsets k (ltb-true k (length offsets) t), suffix-out offsets (k + 1) h))
-      (λ t. rw (suffix-out offsets k (ltb-false k (length offsets) t)))
-
-  -- the place of a name among them, where the first of all has the place `first`
-  module _ (n : List ℕ) (first : ℕ) where
-    abbrev pub placeBehind : ℕ
-    placeBehind = placeFrom (first + k) n namesFrom
-
-    -- one turn: the name is that one, or is looked for behind it
-    pub hit : k + 1 < length offsets → sameBytes n part ≡ true → placeBehind ≡ first + k
-    unfolding placeFrom
-    hit h t = ap (placeFrom (first + k) n) (names-in h) ∙ rw t
-
-    pub miss : k + 1 < length offsets → sameBytes n part ≡ false → placeFrom (first + (k + 1)) n (cut table (drop (k + 1) offsets)) ≡ placeBehind
-    unfolding placeFrom
-    miss h t = let z : first + (k + 1) ≡ suc (first + k) = omega arith in sym (ap (placeFrom (first + k) n) (names-in h) ∙ rw (t, z))
-
-    pub no-more : length offsets ≤ k + 1 → placeBehind ≡ unnamed
-    unfolding placeFrom
-    no-more h = ap (placeFrom (first + k) n) (names-out h)
+pub is-named : (n : ℕ) → is_some (named n) ≡ not (eqb n unnamed)
+is-named n = split (eqb n unnamed) (λ e. rw e) (λ e. rw e)
 
 -- ---- the place says whether it is there
 place-member : (k : ℕ) (n : List ℕ) (names : List (List ℕ)) → k + length names ≤ unnamed → isMember n names ≡ not (eqb (placeFrom k n names) unnamed)

@@ -61,7 +61,7 @@ tab-passed : (p : Point) (xs : List ℕ) → passed p (byte "\t" ∷ xs) ≡ nex
 unfolding passed endsLine
 tab-passed p xs = refl
 
--- 01: all readings of a byte lead past it; columns count from 1, and stay far below the largest number
+-- all readings of a byte lead past it; columns count from 1, and stay far below the largest number
 pub by-readings : (p : Point) (x : ℕ) (xs : List ℕ) → 1 ≤ p.column → p.column + 4 < 2 ^ 64
     → readOn (readings p.column (x ∷ xs)) p (x ∷ xs) ≡ passed p (x ∷ xs)
 unfolding readings

@@ -1,11 +1,14 @@
 -- Laws of a run: a loop that passes the bytes of a class, one law for every class.
 use Rattle.std.proofs.Common.{◌≡◌, ℕ, zero, suc, ◌+◌, ◌<◌, ◌≤◌, Bool, true, false, not, ◌&&◌, eqb, List, [], ◌∷◌, length, get_or, take, drop, sym, refl, ap, ◌∙◌, arith, length-drop, drop-drop}
+use Rattle.std.proofs.lemmas.List.{drop_all, drop_more}
+use Rattle.std.proofs.lemmas.Bool.{and_parts}
+use Rattle.std.proofs.Math.Bool.{and-false, and-true, or-true}
+use Rattle.std.specs.List.{fold}
 use Rattle.lexical.specs.Text.{byte, run}
 use Rattle.lexical.specs.Byte.{isLineEndingByte}
 use Rattle.lexical.specs.Line.{isInner, lineLength}
 use Rattle.lexical.specs.Name.{all}
-use Rattle.lexical.proofs.Cases.{split, and-left, and-right, and-yes, and-no, or-yes}
-use Rattle.lexical.proofs.Suffix.{suffix-in, suffix-out}
+use Rattle.lexical.proofs.Cases.{split}
 
 -- where the run of a class that begins at an index of a text ends
 abbrev pub runEnd : (ℕ → Bool) → List ℕ → ℕ → ℕ
@@ -14,15 +17,15 @@ runEnd f s i = i + run f (drop i s)
 module _ (f : ℕ → Bool) (s : List ℕ) (i : ℕ) where
   pub run-on : i < length s → f (get_or s i 0) ≡ true → runEnd f s (i + 1) ≡ runEnd f s i
   unfolding run
-  run-on h e = rw (suffix-in s i h, e) (omega arith)
+  run-on h e = rw (drop_more s i 0 h, e) (omega arith)
 
   pub run-stop : i < length s → f (get_or s i 0) ≡ false → runEnd f s i ≡ i
   unfolding run
-  run-stop h e = rw (suffix-in s i h, e) (omega arith)
+  run-stop h e = rw (drop_more s i 0 h, e) (omega arith)
 
   pub run-over : length s ≤ i → runEnd f s i ≡ i
   unfolding run
-  run-over h = rw (suffix-out s i h) (omega arith)
+  run-over h = rw (drop_all i s h) (omega arith)
 
 -- no more bytes are passed than there are
 pub run-length : (f : ℕ → Bool) (s : List ℕ) → run f s ≤ length s
@@ -60,7 +63,7 @@ unfolding run all
 many f zero s l h = omega arith
 many f (suc n) [] l h = absurd (omega arith)
 many f (suc n) (x ∷ s) l h =
-    let e = many f n s (omega arith) (and-right (f x) (all f (take n s)) h) in rw (and-left (f x) (all f (take n s)) h) (omega (arith, e))
+    let e = many f n s (omega arith) (and_parts (f x) (all f (take n s)) h).1 in rw (and_parts (f x) (all f (take n s)) h).0 (omega (arith, e))
 
 pub run-many : (f : ℕ → Bool) (n : ℕ) (s : List ℕ) (i : ℕ) → i + n ≤ length s → all f (take n (drop i s)) ≡ true → runEnd f s (i + n) ≡ runEnd f s i
 run-many f n s i l h =
@@ -68,31 +71,12 @@ run-many f n s i l h =
     let d : run f (drop n (drop i s)) ≡ run f (drop (i + n) s) = ap (run f) (drop-drop n i s) in
     omega (arith, e, d)
 
--- the first of them, and the others
-one : (f : ℕ → Bool) (n : ℕ) (s : List ℕ) (i j : ℕ) → i + 1 ≡ j → i < length s → all f (take (suc n) (drop i s)) ≡ (f (get_or s i 0) && all f (take n (drop j s)))
+-- all pass where the test of each, joined to those before it, is true
+pub folded : {A : Type 0} (f : A → Bool) (t : Bool) (s : List A) → fold (λ r x. r && f x) t s ≡ (t && all f s)
 unfolding all
-one f n s i j e h = rw (suffix-in s i h, e) refl
-
-pub all-eight : (f : ℕ → Bool) (s : List ℕ) (i : ℕ) → i + 8 ≤ length s
-    → all f (take 8 (drop i s))
-    ≡ (f (get_or s i 0) && (f (get_or s (i + 1) 0) && (f (get_or s (i + 2) 0) && (f (get_or s (i + 3) 0) && (f (get_or s (i + 4) 0) && (f (get_or s (i + 5) 0) && (f (get_or s (i + 6) 0) && f (get_or s (i + 7) 0))))))))
-unfolding all
-all-eight f s i h =
-    one f 7 s i (i + 1) refl (omega arith)
-    ∙ ap (λ b. f (get_or s i 0) && b)
-    (one f 6 s (i + 1) (i + 2) (omega arith) (omega arith)
-    ∙ ap (λ b. f (get_or s (i + 1) 0) && b)
-    (one f 5 s (i + 2) (i + 3) (omega arith) (omega arith)
-    ∙ ap (λ b. f (get_or s (i + 2) 0) && b)
-    (one f 4 s (i + 3) (i + 4) (omega arith) (omega arith)
-    ∙ ap (λ b. f (get_or s (i + 3) 0) && b)
-    (one f 3 s (i + 4) (i + 5) (omega arith) (omega arith)
-    ∙ ap (λ b. f (get_or s (i + 4) 0) && b)
-    (one f 2 s (i + 5) (i + 6) (omega arith) (omega arith)
-    ∙ ap (λ b. f (get_or s (i + 5) 0) && b)
-    (one f 1 s (i + 6) (i + 7) (omega arith) (omega arith)
-    ∙ ap (λ b. f (get_or s (i + 6) 0) && b)
-    (one f 0 s (i + 7) (i + 8) (omega arith) (omega arith) ∙ and-yes (f (get_or s (i + 7) 0)))))))))
+folded f t [] = sym (and-true t)
+folded f true (x ∷ s) = folded f (f x) s
+folded f false (x ∷ s) = folded f false s
 
 -- ---- three tests for all bytes, or three for each of them
 -- no byte is another
@@ -104,15 +88,15 @@ unfolding all
 all-inner mark [] = refl
 all-inner mark (x ∷ xs) =
     split (eqb x mark) (λ h. simp h)
-    (λ h. split (eqb x (byte "\n")) (λ l. simp (h, l) (sym (and-no (others mark xs))))
-    (λ l. split (eqb x (byte "\r")) (λ r. simp (h, l, r) (sym (ap (λ b. others mark xs && b) (and-no (others (byte "\n") xs)) ∙ and-no (others mark xs))))
+    (λ h. split (eqb x (byte "\n")) (λ l. simp (h, l) (sym (and-false (others mark xs))))
+    (λ l. split (eqb x (byte "\r")) (λ r. simp (h, l, r) (sym (ap (λ b. others mark xs && b) (and-false (others (byte "\n") xs)) ∙ and-false (others mark xs))))
     (λ r. simp (h, l, r) (all-inner mark xs))))
 
 -- ---- a line ends where it does, seen from a mark in it
 inner-line : (mark i x : ℕ) (xs : List ℕ) → isInner mark x ≡ true → i + lineLength (x ∷ xs) ≡ i + 1 + lineLength xs
 unfolding run
 inner-line mark i x xs h =
-    split (isLineEndingByte x) (λ e. let z : false ≡ true = simp (e, or-yes (eqb x mark)) at h in cc)
+    split (isLineEndingByte x) (λ e. let z : false ≡ true = simp (e, or-true (eqb x mark)) at h in cc)
     (λ e. let z : i + suc (lineLength xs) ≡ i + 1 + lineLength xs = omega arith in simp e z)
 
 pub line-end-behind : (mark : ℕ) (s : List ℕ) (i j : ℕ) → j ≡ runEnd (isInner mark) s i → i + lineLength (drop i s) ≡ j + lineLength (drop j s)

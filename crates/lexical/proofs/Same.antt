@@ -1,34 +1,24 @@
--- Laws of sameBytes: strings of unlike length, one byte further, the end; and that it decides equality.
-use Rattle.std.proofs.Common.{◌≡◌, ℕ, suc, ◌+◌, ◌<◌, ◌≤◌, Bool, true, false, ◌&&◌, eqb, List, [], ◌∷◌, map, length, get_or, drop, sym, refl, ap, eq-eqb, ne_eqb, eqb-true}
+-- Laws of sameBytes: strings of unlike length and of one length; and that it decides equality.
+use Rattle.std.proofs.Common.{◌≡◌, ℕ, suc, true, false, ◌&&◌, eqb, List, [], ◌∷◌, map, length, refl, ap, arith, eqb-true}
+use Rattle.std.proofs.lemmas.Bool.{and_parts}
+use Rattle.std.proofs.Math.Bool.{and-false}
+use Rattle.std.specs.List.{zip, list_all}
 use Rattle.lexical.specs.Name.{sameBytes}
-use Rattle.lexical.proofs.Cases.{and-left, and-right, and-no}
-use Rattle.lexical.proofs.Suffix.{suffix-in, suffix-out}
 
 pub same-unlike : (xs ys : List ℕ) → (length xs ≡ length ys → ⊥) → sameBytes xs ys ≡ false
 unfolding sameBytes
 same-unlike [] [] h = absurd (h refl)
 same-unlike [] (y ∷ ys) h = refl
 same-unlike (x ∷ xs) [] h = refl
-same-unlike (x ∷ xs) (y ∷ ys) h = rw (same-unlike xs ys (λ e. h (ap suc e))) (and-no (eqb x y))
+same-unlike (x ∷ xs) (y ∷ ys) h = rw (same-unlike xs ys (λ e. h (ap suc e))) (and-false (eqb x y))
 
--- the first string is read through f
-module _ (f : ℕ → ℕ) (xs ys : List ℕ) (i : ℕ) where
-  abbrev pub sameFrom : Bool
-  sameFrom = sameBytes (map f (drop i xs)) (drop i ys)
-
-  same-in : i < length xs → i < length ys → sameFrom ≡ (eqb (f (get_or xs i 0)) (get_or ys i 0) && sameBytes (map f (drop (i + 1) xs)) (drop (i + 1) ys))
-  unfolding sameBytes
-  same-in h k = rw (suffix-in xs i h, suffix-in ys i k)
-
-  pub same-next : i < length xs → i < length ys → f (get_or xs i 0) ≡ get_or ys i 0 → sameBytes (map f (drop (i + 1) xs)) (drop (i + 1) ys) ≡ sameFrom
-  same-next h k e = sym (simp (eq-eqb _ _ e) at (same-in h k))
-
-  pub same-stop : i < length xs → i < length ys → (f (get_or xs i 0) ≡ get_or ys i 0 → ⊥) → sameFrom ≡ false
-  same-stop h k n = simp (ne_eqb _ _ n) at (same-in h k)
-
-  pub same-end : length xs ≤ i → length ys ≤ i → sameFrom ≡ true
-  unfolding sameBytes
-  same-end h k = rw (suffix-out xs i h, suffix-out ys i k)
+-- strings of one length are the same where each byte of the first, read through f, is that of the second
+pub same-zip : (f : ℕ → ℕ) (xs ys : List ℕ) → length xs ≡ length ys → list_all (λ p. eqb (f p.0) p.1) (zip xs ys) ≡ sameBytes (map f xs) ys
+unfolding sameBytes
+same-zip f [] [] h = refl
+same-zip f [] (y ∷ ys) h = absurd (omega arith)
+same-zip f (x ∷ xs) [] h = absurd (omega arith)
+same-zip f (x ∷ xs) (y ∷ ys) h = ap (λ b. eqb (f x) y && b) (same-zip f xs ys (omega arith))
 
 pub same-equal : (xs ys : List ℕ) → sameBytes xs ys ≡ true → xs ≡ ys
 unfolding sameBytes
@@ -36,6 +26,6 @@ same-equal [] [] e = refl
 same-equal [] (y ∷ ys) e = cc
 same-equal (x ∷ xs) [] e = cc
 same-equal (x ∷ xs) (y ∷ ys) e =
-    let p : x ≡ y = eqb-true x y (and-left (eqb x y) (sameBytes xs ys) e) in
-    let q : xs ≡ ys = same-equal xs ys (and-right (eqb x y) (sameBytes xs ys) e) in
+    let p : x ≡ y = eqb-true x y (and_parts (eqb x y) (sameBytes xs ys) e).0 in
+    let q : xs ≡ ys = same-equal xs ys (and_parts (eqb x y) (sameBytes xs ys) e).1 in
     cc

@@ -1,8 +1,8 @@
--- Laws of bytes stored one behind the other in a buffer: stores behind stores, the whole buffer afterwards, and a loop that copies.
-use Rattle.std.proofs.Common.{◌≡◌, ℕ, suc, ◌+◌, ◌-◌, ◌<◌, ◌≤◌, List, [], ◌∷◌, ◌++◌, length, get_or, take, drop, set, sym, refl, ap, ◌∙◌, zero-add, add-one, arith, length-set, take_all}
+-- Laws of bytes stored one behind the other in a buffer: stores behind stores, the whole buffer afterwards, and a part that is copied over.
+use Rattle.std.proofs.Common.{◌≡◌, ℕ, suc, ◌+◌, ◌-◌, ◌≤◌, List, [], ◌∷◌, ◌++◌, length, take, drop, set, sym, refl, ap, ◌∙◌, zero-add, add-one, arith, take_all, append_assoc}
 use lib.Seq.{sets, length-sets, sets-eq}
+use borrow.Rule.Slice.PartMut.{put_mid, post_of, Post-is}
 use Rattle.lexical.specs.Buffer.{stored, Written}
-use Rattle.lexical.proofs.Suffix.{suffix-in, suffix-out}
 
 is-sets : (l : List ℕ) (i : ℕ) (bs : List ℕ) → stored l i bs ≡ sets l i bs
 unfolding stored
@@ -29,20 +29,12 @@ stores l i j (x ∷ a) b e = stores (set l i x) (suc i) j a b (omega arith)
 pub from-front : (bs l : List ℕ) → length bs ≤ length l → stored l 0 bs ≡ bs ++ drop (length bs) l
 from-front bs l h = is-sets l 0 bs ∙ (let e = sets-eq bs l 0 (omega arith) in rw (zero-add) at e)
 
--- ---- a loop that copies a part, at its i-th byte
-module _ (l part : List ℕ) (at i : ℕ) where
-  pub copy-turn : i < length part → stored (set l (at + i) (get_or part i 0)) (at + (i + 1)) (drop (i + 1) part) ≡ stored l (at + i) (drop i part)
-  copy-turn h =
-      let p : at + (i + 1) ≡ at + i + 1 = omega arith in
-      rw (p, suffix-in part i h) (second l (at + i) (get_or part i 0) (drop (i + 1) part))
-
-  pub copy-end : length part ≤ i → stored l (at + i) (drop i part) ≡ l
-  unfolding stored
-  copy-end h = rw (suffix-out part i h)
-
--- ---- the length stays
-pub same-set : (l : List ℕ) (i x : ℕ) → length (set l i x) ≡ length l
-same-set l i x = length-set l i x
+-- copied over a part of the buffer
+pub copied : (l : List ℕ) (at : ℕ) (bs part : List ℕ) → at + length bs ≤ length l → part ≡ bs → put_mid at (at + length bs - at) l part ≡ stored l at bs
+copied l at bs part h e =
+    ap (λ p. take at l ++ (p ++ post_of at (at + length bs - at) l)) e
+    ∙ ap (λ r. take at l ++ (bs ++ r)) (Post-is at (at + length bs) l (omega arith))
+    ∙ sym (is-sets l at bs ∙ sets-eq bs l at h ∙ append_assoc (take at l) bs (drop (at + length bs) l))
 
 pub same : {l m : List ℕ} {i : ℕ} {bs : List ℕ} → Written l i bs m → length m ≡ length l
 same {l} {m} {i} {bs} w = ap length (w.is ∙ is-sets l i bs) ∙ length-sets l i bs

@@ -1,23 +1,15 @@
 -- Laws of a text's suffix at an index: its first byte, and the suffix at the next index; and of the bytes between two indices.
-use Rattle.std.proofs.Common.{◌≡◌, ℕ, zero, suc, ◌+◌, ◌-◌, ◌<◌, ◌≤◌, List, [], ◌∷◌, ◌++◌, length, get_or, take, drop, sym, refl, ap, ◌∙◌, add-one, arith, drop_of_length-le, drop-cons, drop-drop, take-add}
+use Rattle.std.proofs.Common.{◌≡◌, ℕ, zero, suc, ◌+◌, ◌-◌, ◌<◌, ◌≤◌, List, [], ◌∷◌, ◌++◌, length, get_or, take, drop, sym, refl, ap, ◌∙◌, arith, drop-drop, take-add}
+use Rattle.std.proofs.lemmas.List.{drop_all, drop_more}
 use lib.Seq.{take-nil}
 use Rattle.lexical.specs.Text.{none, first}
 
 module _ (s : List ℕ) (i : ℕ) where
-  pub suffix-in : i < length s → drop i s ≡ get_or s i 0 ∷ drop (i + 1) s
-  suffix-in h = rw (add-one) (drop-cons s i 0 h)
-
-  pub suffix-out : length s ≤ i → drop i s ≡ []
-  suffix-out h = drop_of_length-le s h
-
-  pub suffix-next : drop 1 (drop i s) ≡ drop (i + 1) s
-  suffix-next = drop-drop 1 i s
-
   pub first-in : i < length s → first (drop i s) ≡ get_or s i 0
-  first-in h = rw (suffix-in h)
+  first-in h = rw (drop_more s i 0 h)
 
   pub first-out : length s ≤ i → first (drop i s) ≡ none
-  first-out h = rw (suffix-out h)
+  first-out h = rw (drop_all i s h)
 
 -- the bytes between two indices are the front that ends at the second, from the first on
 pub drop-take : (i n : ℕ) (s : List ℕ) → drop i (take n s) ≡ take (n - i) (drop i s)

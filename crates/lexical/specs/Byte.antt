@@ -56,11 +56,11 @@ abbrev pub isNameBreak : List ℕ → Bool
 isNameBreak [] = true
 isNameBreak (x ∷ xs) = isTagBreak x
 
--- 6.6: the first byte of an attribute name; 01, F2: with digits also a digit
+-- 6.6: the first byte of an attribute name; where F2 is made, with digits also a digit
 abbrev pub isNameStart : Bool → ℕ → Bool
 isNameStart digits b = isAttributeNameStart b || (isDigit b && digits)
 
--- 6.6: an unquoted value ends at what it does not include; 01, T1 and F4: with slash also at `/`
+-- 6.6: an unquoted value ends at what it does not include; where T1 or F4 is made, with slash also at `/`
 abbrev pub isValueEnd : Bool → ℕ → Bool
 isValueEnd slash b = isValueExcluded b || (b == (byte "/") && slash)
 

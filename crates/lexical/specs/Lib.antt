@@ -1,5 +1,6 @@
 pub mod Text
 pub mod Byte
+pub mod Class
 pub mod Name
 pub mod Line
 pub mod Point

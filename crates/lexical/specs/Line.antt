@@ -1,4 +1,4 @@
--- Lines, from CommonMark 0.31.2, section 2.1, and 01, What is read and given.
+-- Lines, from CommonMark 0.31.2, section 2.1, and docs/SCOPE.md.
 use Rattle.std.specs.Prelude.{ℕ, zero, suc, Bool, true, not, ◌&&◌, ◌||◌, List, [], ◌∷◌, drop, ◌==◌}
 use Rattle.lexical.specs.Text.{byte, pick, first, run}
 use Rattle.lexical.specs.Byte.{isSpaceOrTab, isLineEndingByte}
@@ -18,11 +18,11 @@ unfoldable pub lineEndings : List ℕ → ℕ
 lineEndings [] = 0
 lineEndings (x ∷ xs) = pick (endsLine (x ∷ xs)) (suc (lineEndings xs)) (lineEndings xs)
 
--- 01: there is one line more than there are line endings
+-- there is one line more than there are line endings
 unfoldable pub lines : List ℕ → ℕ
 lines s = suc (lineEndings s)
 
--- 01: an index is a line's first byte where it is 0 or a line ends just before it
+-- an index is a line's first byte where it is 0 or a line ends just before it
 unfoldable pub isLineStart : List ℕ → ℕ → Bool
 isLineStart s zero = true
 isLineStart s (suc i) = endsLine (drop i s)
@@ -40,6 +40,6 @@ abbrev pub atLineEnd : List ℕ → Bool
 atLineEnd [] = true
 atLineEnd (x ∷ xs) = isLineEndingByte x
 
--- 01: a line of only spaces and tabs, or of no bytes, is blank
+-- a line of only spaces and tabs, or of no bytes, is blank
 unfoldable pub isBlank : List ℕ → Bool
 isBlank s = atLineEnd (drop (run isSpaceOrTab s) s)

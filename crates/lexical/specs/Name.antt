@@ -1,5 +1,5 @@
 -- Names of tags, from CommonMark 0.31.2, section 4.6, and the GitHub Flavored Markdown Spec, section 6.11; and the CDATA prefix.
-use Rattle.std.specs.Prelude.{◌≡◌, ℕ, zero, suc, ◌+◌, ◌-◌, ◌<◌, ◌≤◌, Bool, true, false, ◌&&◌, ◌||◌, ltb, List, [], ◌∷◌, ◌++◌, map, length, take, drop, ◌==◌, nat_le, nat_lt, slice_index_or, slice_range}
+use Rattle.std.specs.Prelude.{◌≡◌, ℕ, zero, suc, ◌+◌, ◌-◌, ◌<◌, ◌≤◌, Bool, true, false, ◌&&◌, ◌||◌, ltb, List, [], ◌∷◌, ◌++◌, Option, Some, None, map, length, take, drop, ◌==◌, nat_le, nat_lt, slice_index_or, slice_range}
 use Rattle.lexical.specs.Text.{byte, bytes, pick, first}
 use Rattle.lexical.specs.Byte.{within, lower}
 
@@ -74,7 +74,7 @@ blockNames =
 unfoldable pub rawNames : List (List ℕ)
 rawNames = bytes "pre" ∷ bytes "script" ∷ bytes "style" ∷ bytes "textarea" ∷ []
 
--- 02, Ask 4; GitHub Flavored Markdown Spec 0.29, 6.11, Disallowed Raw HTML: the nine names, by their letters
+-- GitHub Flavored Markdown Spec 0.29, 6.11, Disallowed Raw HTML: the nine names, by their letters
 unfoldable pub disallowedNames : List (List ℕ)
 disallowedNames =
     bytes "iframe" ∷ bytes "noembed" ∷ bytes "noframes" ∷ bytes "plaintext" ∷ bytes "script" ∷ bytes "style" ∷ bytes "textarea" ∷ bytes "title" ∷ bytes "xmp" ∷ []
@@ -98,14 +98,18 @@ isBlockName n = isMember (map lower n) blockNames
 unfoldable pub isRawName : List ℕ → Bool
 isRawName n = isMember (map lower n) rawNames
 
--- 02, Ask 4: in any letter case
+-- in any letter case
 unfoldable pub isDisallowedName : List ℕ → Bool
 isDisallowedName n = isMember (map lower n) disallowedNames
 
--- ---- 02, Ask 1: which name it is
+-- ---- which name it is
 -- no place: no list has as many names
 abbrev pub unnamed : ℕ
 unnamed = 255
+
+-- a place, if it is one
+abbrev pub named : ℕ → Option ℕ
+named place = pick (place == unnamed) None (Some place)
 
 -- the place of a name in a list whose first name has the place k
 unfoldable pub placeFrom : ℕ → List ℕ → List (List ℕ) → ℕ
@@ -134,11 +138,11 @@ matched [] s = 0
 matched (p ∷ ps) [] = 0
 matched (p ∷ ps) (x ∷ xs) = pick (x == p) (suc (matched ps xs)) 0
 
--- 01, T2: k letters of the prefix were counted, and it is compared with s from there on: the letters counted then
+-- where T2 is made, k letters of the prefix were counted, and it is compared with s from there on: the letters counted then
 unfoldable pub cdataLetters : ℕ → List ℕ → ℕ
 cdataLetters k s = k + matched (drop k cdataPrefix) s
 
--- ---- 01, What form to use where: names end to end, and the offsets that cut them
+-- ---- names end to end, and the offsets that cut them
 -- the names end to end
 unfoldable pub nameBytes : List (List ℕ) → List ℕ
 nameBytes [] = []
@@ -170,7 +174,7 @@ chain f (x ∷ y ∷ rest) = f x y && chain f (y ∷ rest)
 unfoldable pub rising : ℕ → List ℕ → Bool
 rising n offsets = all (λ o. nat_le o n) offsets && chain ltb offsets
 
--- ---- 02, Ask 3: names by their first letter
+-- ---- names by their first letter
 -- the names of a list that begin with a byte
 unfoldable pub beginningWith : ℕ → List (List ℕ) → List (List ℕ)
 beginningWith b [] = []

@@ -1,10 +1,10 @@
--- Points: how reading moves them, from 01's paragraph on tokenizer.rs. A line, a column or a count of readings is a `usize`, whose sums are modulo 2 ^ 64.
-use Rattle.std.specs.Prelude.{ℕ, zero, suc, ◌+◌, ◌-◌, ◌%◌, ◌^◌, List, [], ◌∷◌, ◌==◌}
+-- Points: how reading moves them, as in the Rust's tokenizer.rs. A line, a column or a count of readings is a `usize`, whose sums are modulo 2 ^ 64.
+use Rattle.std.specs.Prelude.{ℕ, zero, suc, ◌+◌, ◌-◌, ◌%◌, ◌^◌, List, [], ◌∷◌, Option, Some, None, ◌==◌}
 use Rattle.lexical.specs.Text.{byte, pick, first}
 use Rattle.lexical.specs.Line.{endsLine}
 use Rattle.lexical.specs.declared.event.Point.{Point}
 use Rattle.lexical.specs.declared.tokenizer.ByteAction.{ByteAction}
-use Rattle.lexical.specs.declared.tokenizer.ByteAction.TheVariants.{Normal, Ignore, Insert, End}
+use Rattle.lexical.specs.declared.tokenizer.ByteAction.TheVariants.{Normal, Ignore, Insert}
 
 abbrev pub plus : ℕ → ℕ → ℕ
 plus a b = (a + b) % 2 ^ 64
@@ -16,11 +16,11 @@ point l c i v = record { line = l; column = c; index = i; vs = v }
 abbrev pub start : Point
 start = point 1 1 0 0
 
--- 01: a tab at column c, counted from 1, is read 4 - ((c - 1) mod 4) times
+-- a tab at column c, counted from 1, is read 4 - ((c - 1) mod 4) times
 unfoldable pub tabReadings : ℕ → ℕ
 tabReadings c = 4 - (c - 1) % 4
 
--- 01: first as tab, then as spaces
+-- first as tab, then as spaces
 unfoldable pub tabRead : ℕ → ℕ
 tabRead vs = pick (vs == 0) (byte "\t") (byte " ")
 
@@ -32,13 +32,13 @@ pub data Action : Type 0 where
   noByte : Action
 
 -- by the cases of the code's answer
-abbrev pub actionOf : ByteAction → Action
-actionOf (Normal b) = lastReading b
-actionOf Ignore = skipped
-actionOf (Insert b) = earlierReading b
-actionOf End = noByte
+abbrev pub actionOf : Option ByteAction → Action
+actionOf (Some (Normal b)) = lastReading b
+actionOf (Some Ignore) = skipped
+actionOf (Some (Insert b)) = earlierReading b
+actionOf None = noByte
 
--- 01: CR before LF is skipped, a lone CR reads as LF; a tab has as many readings as are left to the next stop
+-- CR before LF is skipped, a lone CR reads as LF; a tab has as many readings as are left to the next stop
 unfoldable pub actionAt : Point → List ℕ → Action
 actionAt p [] = noByte
 actionAt p (x ∷ xs) =

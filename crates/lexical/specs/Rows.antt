@@ -1,4 +1,4 @@
--- The rows of 01 on tokenizer.rs and constant.rs, and of 02 on names, each a test, proved together by one computed fact.
+-- The examples of docs/SCOPE.md on points, lines and names, each a test, proved together by one computed fact.
 use Rattle.std.specs.Prelude.{◌≡◌, ℕ, zero, suc, Bool, true, not, List, [], ◌∷◌, ◌==◌, slice_index, refl}
 use Rattle.lexical.specs.Text.{byte, bytes, run}
 use Rattle.lexical.specs.Line.{lineEnding, endsLine, lineEndings, lines, isBlank}
@@ -41,20 +41,20 @@ rows =
     isBlockName (bytes "bLockQuote") ∷
     isRawName (bytes "SCRIPT") ∷
     not (isRawName (bytes "scripts")) ∷
-    -- 02, Ask 1: the first and the last of each list, and no name of it
+    -- the first and the last of each list, and no name of it
     (blockPlace (bytes "Address") == 0) ∷
     (blockPlace (bytes "ul") == 61) ∷
     (rawPlace (bytes "PRE") == 0) ∷
     (rawPlace (bytes "textarea") == 3) ∷
     (blockPlace (bytes "pre") == 255) ∷
     (rawPlace (bytes "div") == 255) ∷
-    -- 02, Ask 4: a name of GitHub's list, in any letter case, and none that is longer or of another list
+    -- a name of GitHub's list, in any letter case, and none that is longer or of another list
     isDisallowedName (bytes "nOeMbEd") ∷
     isDisallowedName (bytes "TITLE") ∷
     not (isDisallowedName (bytes "titles")) ∷
     not (isDisallowedName (bytes "pre")) ∷
     not (isDisallowedName []) ∷
-    -- 02, Ask 3: the names of a letter, of the last that has any, and of one that has none
+    -- the names of a letter, of the last that has any, and of one that has none
     sameBytes (nameBytes (beginningWith (byte "o") blockNames)) (bytes "oloptgroupoption") ∷
     sameBytes (nameBytes (beginningWith (byte "u") blockNames)) (bytes "ul") ∷
     sameBytes (nameBytes (beginningWith (byte "s") rawNames)) (bytes "scriptstyle") ∷

@@ -31,6 +31,6 @@ unfoldable pub run : (ℕ → Bool) → List ℕ → ℕ
 run f [] = 0
 run f (x ∷ xs) = pick (f x) (suc (run f xs)) 0
 
--- 01, Where each refusal is met: the most bytes of a bulletin or a text
+-- the most bytes of a bulletin or a text
 unfoldable pub limit : ℕ
 limit = 1000000

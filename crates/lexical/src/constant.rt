@@ -1,10 +1,11 @@
 // constant.rs: names, the CDATA prefix and sizes; and the names of GitHub's tag filter.
-ghost use Rattle.std.specs.Prelude.{◌≡◌, ◌+◌, ◌<◌, ◌≤◌, true, map, length, drop, nat_lt};
+ghost use Rattle.std.specs.Prelude.{◌≡◌, ◌<◌, [], map, length, drop, nat_lt, slice_index_or};
 ghost use Rattle.lexical.specs.Text.{limit};
 ghost use Rattle.lexical.specs.Byte.{lower};
-ghost use Rattle.lexical.specs.Name.{sameBytes, unnamed, placeFrom, blockPlace, rawPlace, isDisallowedName, blockNames, rawNames, disallowedNames, nameBytes, nameOffsets, cut, rising, letters, letterStarts, GoesTo, LetterTable, cdataPrefix, cdataLetters};
+ghost use Rattle.lexical.specs.Name.{sameBytes, named, placeFrom, blockPlace, rawPlace, isDisallowedName, blockNames, rawNames, disallowedNames, cut, GoesTo, LetterTable, cdataPrefix, cdataLetters};
 
 use crate::byte::to_ascii_lowercase;
+use std::ops::Range;
 
 // The names that open an HTML block of kind 6, end to end, and where each begins; the last offset is where the last name ends.
 const HTML_BLOCK_NAMES: [u8; 294] =
@@ -41,12 +42,6 @@ const DISALLOWED_STARTS: [u8; 27] = [
     0, 0, 0, 0, 0, 0, 0, 0, 0, 1, 1, 1, 1, 1, 3, 3, 4, 4, 4, 6, 8, 8, 8, 8, 9, 9, 9,
 ];
 
-// No places.
-const NO_PLACES: Places = Places { from: 0, to: 0 };
-
-// The place of what is no name.
-pub const NO_NAME: u8 = 255;
-
 // The length of the longest raw name.
 pub const HTML_RAW_SIZE_MAX: usize = 8;
 
@@ -66,183 +61,128 @@ const LIMIT: usize = 1000000;
 fn same_lower(name: &[u8], part: &[u8]) -> bool
     ensures { result ≡ sameBytes (map lower name.now) part.now }
 {
-    if name.len() != part.len() {
-        return false;
-    }
-    let mut i = 0;
-    while i < name.len() {
-        if to_ascii_lowercase(name[i]) != part[i] {
-            return false;
-        }
-        i += 1;
-    }
-    true
+    name.len() == part.len()
+        && name
+            .iter()
+            .zip(part.iter())
+            .all(|(a, b)| to_ascii_lowercase(*a) == *b)
 }
 
-// The place of the name, in lower case, among those that the offsets cut from the table: the names of a whole list, or of a part of it whose first name has the
-// place that is passed in.
-fn place_of(name: &[u8], table: &[u8], offsets: &[u16], first: u8) -> u8
-    requires rises { rising (length table.now) offsets.now ≡ true }
-    requires few { first + length offsets.now ≤ unnamed }
-    ensures { result ≡ placeFrom first (map lower name.now) (cut table.now offsets.now) }
-{
-    let mut k = 0;
-    while k + 1 < offsets.len() {
-        let start = offsets[k] as usize;
-        let end = offsets[k + 1] as usize;
-        if same_lower(name, &table[start..end]) {
-            return first + k as u8;
-        }
-        k += 1;
-    }
-    NO_NAME
-}
-
-// Places of a list, from one up to another.
+// A list of names, end to end, with the offsets that cut them and the places where the names of each letter begin, from `a` on, and last where those of `z` end.
 #[derive(Clone, Copy)]
-struct Places {
-    from: u8,
-    to: u8,
+struct NameTable {
+    names: &'static [u8],
+    offsets: &'static [u16],
+    starts: &'static [u8],
+    ghost by_letter: { LetterTable names.now offsets.now starts.now },
 }
 
-// The places of the names that begin with a byte, in either case.
-fn letter_places(first: u8, starts: &[u8]) -> Places
-    requires { letters < length starts.now }
-    ensures { GoesTo starts.now (lower first) result.from result.to }
-{
-    let lower = to_ascii_lowercase(first);
-    if (b'a' <= lower) & (lower <= b'z') {
-        let letter = (lower - b'a') as usize;
-        return Places {
-            from: starts[letter],
-            to: starts[letter + 1],
-        };
+impl NameTable {
+    // The name at a place.
+    fn name(&self, place: u8) -> &[u8]
+        requires { place < length (cut self.now.names.now self.now.offsets.now) }
+        ensures { result.now ≡ slice_index_or (cut self.now.names.now self.now.offsets.now) place [] }
+    {
+        let k = place as usize;
+        &self.names[self.offsets[k] as usize..self.offsets[k + 1] as usize]
     }
-    NO_PLACES
-}
 
-// The place of the name, in lower case, in a list: it is held only against the names that begin as it does.
-fn lookup(name: &[u8], table: &[u8], offsets: &[u16], starts: &[u8]) -> u8
-    requires { LetterTable table.now offsets.now starts.now }
-    ensures { result ≡ placeFrom 0 (map lower name.now) (cut table.now offsets.now) }
-{
-    if name.len() == 0 {
-        return NO_NAME;
+    // The places of the names that begin with a byte, in either case.
+    fn letter_places(&self, first: u8) -> Range<u8>
+        ensures { GoesTo self.now.starts.now (lower first) result.start result.end }
+    {
+        let lower = to_ascii_lowercase(first);
+        if (b'a' <= lower) & (lower <= b'z') {
+            let letter = (lower - b'a') as usize;
+            return self.starts[letter]..self.starts[letter + 1];
+        }
+        0..0
     }
-    let places = letter_places(name[0], starts);
-    let from = places.from as usize;
-    let to = places.to as usize;
-    place_of(name, table, &offsets[from..to + 1], places.from)
+
+    // The place of the name, in lower case: it is held only against the names that begin as it does.
+    fn place(&self, name: &[u8]) -> Option<u8>
+        ensures { result ≡ named (placeFrom 0 (map lower name.now) (cut self.now.names.now self.now.offsets.now)) }
+    {
+        if name.is_empty() {
+            return None;
+        }
+        for place in self.letter_places(name[0]) {
+            if same_lower(name, self.name(place)) {
+                return Some(place);
+            }
+        }
+        None
+    }
 }
 
-fn block_names() -> [u8; 294]
-    ensures { result ≡ nameBytes blockNames }
+fn block_table() -> NameTable
+    ensures { cut result.names.now result.offsets.now ≡ blockNames }
 {
-    HTML_BLOCK_NAMES
+    NameTable {
+        names: &HTML_BLOCK_NAMES,
+        offsets: &HTML_BLOCK_OFFSETS,
+        starts: &HTML_BLOCK_STARTS,
+    }
 }
 
-fn block_offsets() -> [u16; 63]
-    ensures { result ≡ nameOffsets 0 blockNames }
+fn raw_table() -> NameTable
+    ensures { cut result.names.now result.offsets.now ≡ rawNames }
 {
-    HTML_BLOCK_OFFSETS
+    NameTable {
+        names: &HTML_RAW_NAMES,
+        offsets: &HTML_RAW_OFFSETS,
+        starts: &HTML_RAW_STARTS,
+    }
 }
 
-fn block_starts() -> [u8; 27]
-    ensures { result ≡ letterStarts blockNames }
+fn disallowed_table() -> NameTable
+    ensures { cut result.names.now result.offsets.now ≡ disallowedNames }
 {
-    HTML_BLOCK_STARTS
-}
-
-fn raw_names() -> [u8; 22]
-    ensures { result ≡ nameBytes rawNames }
-{
-    HTML_RAW_NAMES
-}
-
-fn raw_offsets() -> [u16; 5]
-    ensures { result ≡ nameOffsets 0 rawNames }
-{
-    HTML_RAW_OFFSETS
-}
-
-fn raw_starts() -> [u8; 27]
-    ensures { result ≡ letterStarts rawNames }
-{
-    HTML_RAW_STARTS
-}
-
-fn disallowed_names() -> [u8; 57]
-    ensures { result ≡ nameBytes disallowedNames }
-{
-    DISALLOWED_NAMES
-}
-
-fn disallowed_offsets() -> [u16; 10]
-    ensures { result ≡ nameOffsets 0 disallowedNames }
-{
-    DISALLOWED_OFFSETS
-}
-
-fn disallowed_starts() -> [u8; 27]
-    ensures { result ≡ letterStarts disallowedNames }
-{
-    DISALLOWED_STARTS
+    NameTable {
+        names: &DISALLOWED_NAMES,
+        offsets: &DISALLOWED_OFFSETS,
+        starts: &DISALLOWED_STARTS,
+    }
 }
 
 // The place of the bytes among the 62 block names, letter case ignored.
-pub fn block_place(name: &[u8]) -> u8
-    ensures { result ≡ blockPlace name.now }
+pub fn block_place(name: &[u8]) -> Option<u8>
+    ensures { result ≡ named (blockPlace name.now) }
 {
-    let table = block_names();
-    let offsets = block_offsets();
-    let starts = block_starts();
-    lookup(name, &table, &offsets, &starts)
+    block_table().place(name)
 }
 
 // The place of the bytes among the 4 raw names, letter case ignored.
-pub fn raw_place(name: &[u8]) -> u8
-    ensures { result ≡ rawPlace name.now }
+pub fn raw_place(name: &[u8]) -> Option<u8>
+    ensures { result ≡ named (rawPlace name.now) }
 {
-    let table = raw_names();
-    let offsets = raw_offsets();
-    let starts = raw_starts();
-    lookup(name, &table, &offsets, &starts)
+    raw_table().place(name)
 }
 
 // Whether the bytes are one of the nine names of GitHub's tag filter, letter case ignored.
 pub fn is_disallowed_name(name: &[u8]) -> bool
     ensures { result ≡ isDisallowedName name.now }
 {
-    let table = disallowed_names();
-    let offsets = disallowed_offsets();
-    let starts = disallowed_starts();
-    lookup(name, &table, &offsets, &starts) != NO_NAME
+    disallowed_table().place(name).is_some()
 }
 
-fn cdata_prefix() -> [u8; 6]
-    ensures { result ≡ cdataPrefix }
+fn cdata_prefix() -> &'static [u8]
+    ensures { result.now ≡ cdataPrefix }
 {
-    HTML_CDATA_PREFIX
+    &HTML_CDATA_PREFIX
 }
 
 // How many letters of the CDATA prefix are counted: the carry, and of those behind it as many as stand at an index.
 pub fn cdata_letters(bytes: &[u8], index: usize, carry: usize) -> usize
     ensures { result ≡ cdataLetters carry (drop index bytes.now) }
 {
-    let prefix = cdata_prefix();
-    let mut count = carry;
-    let mut at = index;
-    while count < HTML_CDATA_SIZE {
-        if at >= bytes.len() {
-            return count;
-        }
-        if bytes[at] != prefix[count] {
-            return count;
-        }
-        count += 1;
-        at += 1;
-    }
-    count
+    let letters = &cdata_prefix()[carry.min(HTML_CDATA_SIZE)..];
+    let rest = &bytes[index.min(bytes.len())..];
+    let same = letters
+        .iter()
+        .zip(rest.iter())
+        .take_while(|pair| *pair.1 == *pair.0);
+    carry + same.count()
 }
 
 // Whether a bulletin or a text has more bytes than are taken.

@@ -9,11 +9,7 @@ fn copy(part: &[u8], out: &mut [u8], at: usize)
     requires { at + length part.now ≤ length out.old }
     ensures { Written out.old at part.now out.new }
 {
-    let mut i = 0;
-    while i < part.len() {
-        out[at + i] = part[i];
-        i += 1;
-    }
+    out[at..at + part.len()].copy_from_slice(part);
 }
 
 // Copies the bytes between two indices to a place of a buffer, as far as there are any and the buffer has room.

@@ -1,30 +1,27 @@
 // Lines of a text. LF, CR LF and CR end a line; there is one line more than there are line endings.
-ghost use Rattle.std.specs.Prelude.{◌≡◌, ◌+◌, ◌≤◌, not, length, take, drop, ◌==◌};
+ghost use Rattle.std.specs.Prelude.{◌≡◌, ◌+◌, not, drop, ◌==◌};
 ghost use Rattle.lexical.specs.Text.{run};
 ghost use Rattle.lexical.specs.Byte.{isSpaceOrTab};
 ghost use Rattle.lexical.specs.Line.{lineEnding, endsLine, lines, isLineStart, isInner, lineLength, isBlank};
 ghost use Rattle.lexical.specs.Name.{all};
 
-use crate::byte::{is_line_ending_byte, is_space_or_tab, peek};
+use crate::byte::{class_end, is_line_ending_byte, is_space_or_tab, peek};
 
 // How many bytes of a line ending stand at an index.
 pub fn line_ending(bytes: &[u8], index: usize) -> usize
     ensures { result ≡ lineEnding (drop index bytes.now) }
 {
-    if index >= bytes.len() {
-        return 0;
-    }
-    let byte = bytes[index];
-    if byte == b'\n' {
-        return 1;
-    }
-    if byte == b'\r' {
-        if peek(bytes, index + 1) == 10 {
-            return 2;
+    match peek(bytes, index) {
+        Some(b'\n') => 1,
+        Some(b'\r') => {
+            if peek(bytes, index + 1) == Some(b'\n') {
+                2
+            } else {
+                1
+            }
         }
-        return 1;
+        _ => 0,
     }
-    0
 }
 
 // Past the line ending at an index. Where none stands: the index.
@@ -41,7 +38,11 @@ pub fn next_line(bytes: &[u8], index: usize) -> usize
 pub fn ends_line(bytes: &[u8], index: usize) -> bool
     ensures { result ≡ endsLine (drop index bytes.now) }
 {
-    line_ending(bytes, index) == 1
+    match peek(bytes, index) {
+        Some(b'\n') => true,
+        Some(b'\r') => peek(bytes, index + 1) != Some(b'\n'),
+        _ => false,
+    }
 }
 
 // The number of lines.
@@ -74,30 +75,21 @@ pub fn is_line_start(bytes: &[u8], index: usize) -> bool
 fn is_inner(b: u8, mark: u8) -> bool
     ensures { result ≡ isInner mark b }
 {
-    !((b == mark) | ((b == b'\n') | (b == b'\r')))
+    !((b == mark) | is_line_ending_byte(b))
 }
 
-// Whether none of the eight bytes at an index is the mark: one test for all of them.
-fn are_other(bytes: &[u8], index: usize, mark: u8) -> bool
-    requires { index + 8 ≤ length bytes.now }
-    ensures { result ≡ all (λ b. not (b == mark)) (take 8 (drop index bytes.now)) }
+// Whether no byte is the mark: one test for all of them, without a branch.
+fn are_other(part: &[u8], mark: u8) -> bool
+    ensures { result ≡ all (λ b. not (b == mark)) part.now }
 {
-    (bytes[index] != mark)
-        & ((bytes[index + 1] != mark)
-            & ((bytes[index + 2] != mark)
-                & ((bytes[index + 3] != mark)
-                    & ((bytes[index + 4] != mark)
-                        & ((bytes[index + 5] != mark)
-                            & ((bytes[index + 6] != mark) & (bytes[index + 7] != mark)))))))
+    part.iter().fold(true, |other, b| other & (*b != mark))
 }
 
-// Whether the eight bytes at an index are neither a mark nor of a line ending.
-fn are_inner(bytes: &[u8], index: usize, mark: u8) -> bool
-    requires { index + 8 ≤ length bytes.now }
-    ensures { result ≡ all (isInner mark) (take 8 (drop index bytes.now)) }
+// Whether all bytes are neither a mark nor of a line ending.
+fn are_inner(part: &[u8], mark: u8) -> bool
+    ensures { result ≡ all (isInner mark) part.now }
 {
-    are_other(bytes, index, mark)
-        & (are_other(bytes, index, b'\n') & are_other(bytes, index, b'\r'))
+    are_other(part, mark) & (are_other(part, b'\n') & are_other(part, b'\r'))
 }
 
 // Past the bytes at an index that are, eight by eight.
@@ -105,13 +97,7 @@ fn skip_eights(bytes: &[u8], index: usize, mark: u8) -> usize
     ensures { result + run (isInner mark) (drop result bytes.now) ≡ index + run (isInner mark) (drop index bytes.now) }
 {
     let mut i = index;
-    while i < bytes.len() {
-        if bytes.len() - i < 8 {
-            return i;
-        }
-        if !are_inner(bytes, i, mark) {
-            return i;
-        }
+    while 8 <= bytes.len().saturating_sub(i) && are_inner(&bytes[i..i + 8], mark) {
         i += 8;
     }
     i
@@ -121,14 +107,8 @@ fn skip_eights(bytes: &[u8], index: usize, mark: u8) -> usize
 pub fn mark_or_line_end(bytes: &[u8], index: usize, mark: u8) -> usize
     ensures { result ≡ index + run (isInner mark) (drop index bytes.now) }
 {
-    let mut i = skip_eights(bytes, index, mark);
-    while i < bytes.len() {
-        if !is_inner(bytes[i], mark) {
-            return i;
-        }
-        i += 1;
-    }
-    i
+    let i = skip_eights(bytes, index, mark);
+    class_end(bytes, i, |b| is_inner(b, mark))
 }
 
 // Where the content of the line ends.
@@ -142,15 +122,7 @@ pub fn line_end(bytes: &[u8], index: usize) -> usize
 pub fn space_or_tab_end(bytes: &[u8], index: usize) -> usize
     ensures { result ≡ index + run isSpaceOrTab (drop index bytes.now) }
 {
-    let mut i = index;
-    while i < bytes.len() {
-        if is_space_or_tab(bytes[i]) {
-            i += 1;
-        } else {
-            return i;
-        }
-    }
-    i
+    class_end(bytes, index, is_space_or_tab)
 }
 
 // Whether the rest of the line, from an index on, is blank.
@@ -158,8 +130,5 @@ pub fn is_blank(bytes: &[u8], index: usize) -> bool
     ensures { result ≡ isBlank (drop index bytes.now) }
 {
     let end = space_or_tab_end(bytes, index);
-    if end >= bytes.len() {
-        return true;
-    }
-    is_line_ending_byte(bytes[end])
+    bytes.get(end).is_none_or(|b| is_line_ending_byte(*b))
 }

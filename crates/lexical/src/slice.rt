@@ -5,14 +5,6 @@ ghost use Rattle.std.specs.Prelude.{◌≡◌, ◌-◌, take, drop};
 pub fn from_indices(bytes: &[u8], start: usize, end: usize) -> &[u8]
     ensures { result.now ≡ take (end - start) (drop start bytes.now) }
 {
-    if end < bytes.len() {
-        if start < end {
-            return &bytes[start..end];
-        }
-        return &bytes[0..0];
-    }
-    if start < bytes.len() {
-        return &bytes[start..];
-    }
-    &bytes[0..0]
+    let end = end.min(bytes.len());
+    &bytes[start.min(end)..end]
 }

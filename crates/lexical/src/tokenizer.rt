@@ -6,10 +6,9 @@ use crate::byte::peek;
 use crate::constant::TAB_SIZE;
 use crate::event::Point;
 use crate::line::ends_line;
-use std::num::wrapping_add_usize;
 
 // How to handle a byte.
-#[derive(Clone, Copy)]
+#[derive(Clone, Copy, Debug, PartialEq, Eq)]
 pub enum ByteAction {
     // The last reading of a byte.
     Normal(u8),
@@ -17,18 +16,13 @@ pub enum ByteAction {
     Ignore,
     // A reading of a tab after which others follow.
     Insert(u8),
-    // There is no byte.
-    End,
 }
 
 // How often a tab at a column is read.
 pub fn tab_readings(column: usize) -> usize
     ensures { result ≡ tabReadings column }
 {
-    if column == 0 {
-        return TAB_SIZE;
-    }
-    TAB_SIZE - (column - 1) % TAB_SIZE
+    TAB_SIZE - column.saturating_sub(1) % TAB_SIZE
 }
 
 // As what a tab is read, after so many readings.
@@ -39,29 +33,29 @@ fn tab_read(vs: usize) -> u8
 }
 
 impl Point {
-    // How to handle the byte at the point.
-    pub fn byte_action(self, bytes: &[u8]) -> ByteAction
+    // How to handle the byte at the point, if there is one.
+    pub fn byte_action(self, bytes: &[u8]) -> Option<ByteAction>
         ensures { actionOf result ≡ actionAt self (drop self.index bytes.now) }
     {
-        let index = self.index;
-        if index >= bytes.len() {
-            return ByteAction::End;
-        }
-        let byte = bytes[index];
-        if byte == b'\r' {
-            if peek(bytes, index + 1) == 10 {
-                return ByteAction::Ignore;
+        let byte = *bytes.get(self.index)?;
+        Some(match byte {
+            b'\r' => {
+                if peek(bytes, self.index + 1) == Some(b'\n') {
+                    ByteAction::Ignore
+                } else {
+                    ByteAction::Normal(b'\n')
+                }
             }
-            return ByteAction::Normal(b'\n');
-        }
-        if byte == b'\t' {
-            let read = tab_read(self.vs);
-            if tab_readings(self.column) == 1 {
-                return ByteAction::Normal(read);
+            b'\t' => {
+                let read = tab_read(self.vs);
+                if tab_readings(self.column) == 1 {
+                    ByteAction::Normal(read)
+                } else {
+                    ByteAction::Insert(read)
+                }
             }
-            return ByteAction::Insert(read);
-        }
-        ByteAction::Normal(byte)
+            _ => ByteAction::Normal(byte),
+        })
     }
 
     // Past a line ending: at the next line's first column.
@@ -69,9 +63,9 @@ impl Point {
         ensures { result ≡ nextLine self }
     {
         Point {
-            line: wrapping_add_usize(self.line, 1),
+            line: self.line.wrapping_add(1),
             column: 1,
-            index: wrapping_add_usize(self.index, 1),
+            index: self.index.wrapping_add(1),
             vs: 0,
         }
     }
@@ -81,10 +75,10 @@ impl Point {
         ensures { result ≡ nextByte self columns }
     {
         Point {
-            line: self.line,
-            column: wrapping_add_usize(self.column, columns),
-            index: wrapping_add_usize(self.index, 1),
+            column: self.column.wrapping_add(columns),
+            index: self.index.wrapping_add(1),
             vs: 0,
+            ..self
         }
     }
 
@@ -93,10 +87,8 @@ impl Point {
         ensures { result ≡ skipByte self }
     {
         Point {
-            line: self.line,
-            column: self.column,
-            index: wrapping_add_usize(self.index, 1),
-            vs: self.vs,
+            index: self.index.wrapping_add(1),
+            ..self
         }
     }
 
@@ -105,10 +97,9 @@ impl Point {
         ensures { result ≡ nextReading self }
     {
         Point {
-            line: self.line,
-            column: wrapping_add_usize(self.column, 1),
-            index: self.index,
-            vs: wrapping_add_usize(self.vs, 1),
+            column: self.column.wrapping_add(1),
+            vs: self.vs.wrapping_add(1),
+            ..self
         }
     }
 
@@ -117,16 +108,11 @@ impl Point {
         ensures { result ≡ moved self (actionAt self (drop self.index bytes.now)) }
     {
         match self.byte_action(bytes) {
-            ByteAction::Normal(byte) => {
-                if byte == b'\n' {
-                    self.next_line()
-                } else {
-                    self.next_byte(1)
-                }
-            }
-            ByteAction::Ignore => self.skip_byte(),
-            ByteAction::Insert(_) => self.next_reading(),
-            ByteAction::End => self,
+            Some(ByteAction::Normal(b'\n')) => self.next_line(),
+            Some(ByteAction::Normal(_)) => self.next_byte(1),
+            Some(ByteAction::Ignore) => self.skip_byte(),
+            Some(ByteAction::Insert(_)) => self.next_reading(),
+            None => self,
         }
     }
 
@@ -138,14 +124,11 @@ impl Point {
         if ends_line(bytes, index) {
             return self.next_line();
         }
-        let byte = bytes[index];
-        if byte == b'\r' {
-            return self.skip_byte();
+        match bytes[index] {
+            b'\r' => self.skip_byte(),
+            b'\t' => self.next_byte(tab_readings(self.column)),
+            _ => self.next_byte(1),
         }
-        if byte == b'\t' {
-            return self.next_byte(tab_readings(self.column));
-        }
-        self.next_byte(1)
     }
 
     // To an index at or after the point's, or to the end.
@@ -153,13 +136,8 @@ impl Point {
         ensures { result ≡ movedBy (index - self.index) self (drop self.index bytes.now) }
     {
         let mut point = self;
-        let mut i = self.index;
-        while i < index {
-            if i >= bytes.len() {
-                return point;
-            }
+        for i in self.index..index.min(bytes.len()) {
             point = point.move_past(bytes, i);
-            i += 1;
         }
         point
     }

@@ -1,18 +1,13 @@
 -- A text without blank lines: a front of it has none, and where its last byte is no whitespace, no line behind an ending is blank.
-use mathlib.Core.Path.{◌≡◌, refl, sym, ◌∙◌, ap}
-use mathlib.Core.Bool.{Bool, true, false}
-use mathlib.Core.List.{List, [], ◌∷◌}
-use Prim.Native.Nat.{ℕ, zero, suc, ◌+◌, ◌-◌, ◌<◌, ◌≤◌}
-use native.Mathlib.Omega.{arith}
-use lib.Dec.{eqb}
-use lib.ListN.{length, get_or, take, drop}
-use lib.Seq.{drop-drop}
+use Rattle.std.proofs.Common.{◌≡◌, refl, sym, ◌∙◌, ap, Bool, true, false, List, [], ◌∷◌, ℕ, zero, suc, ◌+◌, ◌-◌, ◌<◌, ◌≤◌, arith, eqb, length, get_or, take, drop, drop-drop}
+use Rattle.std.proofs.lemmas.List.{drop_more}
+use Rattle.std.proofs.lemmas.Bool.{or_parts}
+use Rattle.std.proofs.Math.Bool.{and-false, or-true}
 use Rattle.lexical.specs.Text.{byte, first, run}
 use Rattle.lexical.specs.Byte.{isSpaceOrTab, isLineEndingByte, isWhitespace}
 use Rattle.lexical.specs.Line.{lineEnding, endsLine, lineLength, isBlank}
-use Rattle.lexical.proofs.Cases.{split, clash, or-left, or-right, and-no, or-yes}
+use Rattle.lexical.proofs.Cases.{split, clash}
 use Rattle.lexical.proofs.Ending.{ending-within}
-use Rattle.lexical.proofs.Suffix.{suffix-in}
 use Rattle.rules.specs.Search.{past, somewhere}
 use Rattle.rules.specs.Refusal.{blankFollows}
 use Rattle.rules.proofs.Cut.{blank-apart, lineFrom}
@@ -32,7 +27,7 @@ follows-front : (n : ℕ) (s : List ℕ) → blankFollows s ≡ false → blankF
 unfolding blankFollows endsLine past
 follows-front zero s e = refl
 follows-front (suc n) [] e = refl
-follows-front (suc zero) (x ∷ xs) e = and-no (endsLine (x ∷ []))
+follows-front (suc zero) (x ∷ xs) e = and-false (endsLine (x ∷ []))
 follows-front (suc (suc n)) (x ∷ []) e = e
 follows-front (suc (suc n)) (x ∷ y ∷ ys) e =
     split (endsLine (x ∷ y ∷ ys)) (λ t. let u = rw t at e in rw t (past-front isSpaceOrTab (suc n) (y ∷ ys) u)) (λ t. rw t)
@@ -43,16 +38,16 @@ unfolding somewhere
 no-blank-front zero s e = refl
 no-blank-front (suc n) [] e = refl
 no-blank-front (suc n) (x ∷ xs) e =
-    rw (follows-front (suc n) (x ∷ xs) (or-left (blankFollows (x ∷ xs)) (somewhere blankFollows xs) e))
-    (no-blank-front n xs (or-right (blankFollows (x ∷ xs)) (somewhere blankFollows xs) e))
+    rw (follows-front (suc n) (x ∷ xs) (or_parts (blankFollows (x ∷ xs)) (somewhere blankFollows xs) e).0)
+    (no-blank-front n xs (or_parts (blankFollows (x ∷ xs)) (somewhere blankFollows xs) e).1)
 
 -- ---- behind an ending
 -- a test that holds nowhere does not hold at an index
 nowhere : (f : List ℕ → Bool) (s : List ℕ) (i : ℕ) → i < length s → somewhere f s ≡ false → f (drop i s) ≡ false
 unfolding somewhere
 nowhere f [] i h e = absurd (omega arith)
-nowhere f (x ∷ xs) zero h e = or-left (f (x ∷ xs)) (somewhere f xs) e
-nowhere f (x ∷ xs) (suc i) h e = nowhere f xs i (omega arith) (or-right (f (x ∷ xs)) (somewhere f xs) e)
+nowhere f (x ∷ xs) zero h e = (or_parts (f (x ∷ xs)) (somewhere f xs) e).0
+nowhere f (x ∷ xs) (suc i) h e = nowhere f xs i (omega arith) (or_parts (f (x ∷ xs)) (somewhere f xs) e).1
 
 -- the last byte of an ending ends the line
 last-ends : (n : ℕ) (s : List ℕ) → lineEnding s ≡ suc n → endsLine (drop n s) ≡ true
@@ -70,8 +65,8 @@ last-ends n (x ∷ xs) h =
 ends-white : (x : ℕ) (xs : List ℕ) → endsLine (x ∷ xs) ≡ true → isWhitespace x ≡ true
 unfolding endsLine
 ends-white x xs e =
-    split (isLineEndingByte x) (λ t. rw t (or-yes (isSpaceOrTab x)))
-    (λ t. let u = rw (or-left (eqb x (byte "\n")) (eqb x (byte "\r")) t, or-right (eqb x (byte "\n")) (eqb x (byte "\r")) t) at e in cc)
+    split (isLineEndingByte x) (λ t. rw t (or-true (isSpaceOrTab x)))
+    (λ t. let u = rw ((or_parts (eqb x (byte "\n")) (eqb x (byte "\r")) t).0, (or_parts (eqb x (byte "\n")) (eqb x (byte "\r")) t).1) at e in cc)
 
 -- behind whitespace: where the last byte is no whitespace, and no ending stands behind the spaces and tabs, the line is not blank
 not-only : (x : ℕ) (s : List ℕ) → isWhitespace x ≡ true → isWhitespace (lastOr x s) ≡ false → isLineEndingByte (first (past isSpaceOrTab s)) ≡ false
@@ -94,7 +89,7 @@ not-blank s i none l h e =
     let w : at < length s = omega (arith, ending-within s i h, e) in
     let next : at + 1 ≡ lineFrom s i = omega (arith, e) in
     let x = get_or s at 0 in
-    let cut : drop at s ≡ x ∷ drop (lineFrom s i) s = suffix-in s at w ∙ ap (λ n. x ∷ drop n s) next in
+    let cut : drop at s ≡ x ∷ drop (lineFrom s i) s = drop_more s at 0 w ∙ ap (λ n. x ∷ drop n s) next in
     behind-end x (drop (lineFrom s i) s)
     (sym (ap endsLine cut) ∙ sym (ap endsLine (drop-drop (lineEnding (drop i s) - 1) i s)) ∙ last-ends (lineEnding (drop i s) - 1) (drop i s) (omega (arith, e)))
     (sym (ap blankFollows cut) ∙ nowhere blankFollows s at w none)

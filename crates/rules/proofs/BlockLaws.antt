@@ -1,12 +1,5 @@
 -- A found block by its lines: what the rules give, by the next line; and that its closer tells whether one was met.
-use mathlib.Core.Path.{◌≡◌, refl, sym, ap, subst}
-use mathlib.Core.Bool.{Bool, true, false, ◌&&◌}
-use mathlib.Core.List.{List, [], ◌∷◌}
-use Prim.Native.Nat.{ℕ, zero, suc, ◌+◌, ◌%◌, ◌<◌, ◌≤◌}
-use native.Mathlib.Omega.{arith}
-use lib.Dec.{eqb}
-use lib.ListN.{length}
-use borrow.Author.Tests.{ltb-true, ltb-false, lt-ltb, le-ltb}
+use Rattle.std.proofs.Common.{◌≡◌, refl, sym, ap, subst, Bool, true, false, ◌&&◌, List, [], ◌∷◌, ℕ, zero, suc, ◌+◌, ◌%◌, ◌<◌, ◌≤◌, arith, eqb, length, ltb-true, ltb-false, lt-ltb, le-ltb}
 use Rattle.lexical.specs.Text.{byte, bytes}
 use Rattle.lexical.proofs.Cases.{split}
 use Rattle.rules.specs.Search.{begins, before}

@@ -1,15 +1,10 @@
 -- A line that opens kind 1 or 6 has a raw or a block name behind `<` or `</`, and that is the name which it carries: where `/` follows `<`, none stands there.
-use mathlib.Core.Path.{◌≡◌, refl}
-use mathlib.Core.Bool.{Bool, true, false, ◌&&◌, ◌||◌}
-use mathlib.Core.List.{List, [], ◌∷◌}
-use Prim.Native.Nat.{ℕ}
-use lib.Dec.{eqb, leb}
-use lib.ListN.{drop}
-use borrow.Author.Tests.{eqb-true}
+use Rattle.std.proofs.Common.{◌≡◌, refl, Bool, true, false, ◌&&◌, ◌||◌, List, [], ◌∷◌, ℕ, eqb, leb, drop, eqb-true}
+use Rattle.std.proofs.lemmas.Bool.{and_parts}
 use Rattle.lexical.specs.Text.{byte, bytes, first}
 use Rattle.lexical.specs.Byte.{isLetter}
 use Rattle.lexical.specs.Name.{isBlockName, isRawName}
-use Rattle.lexical.proofs.Cases.{split, clash, and-left, and-right}
+use Rattle.lexical.proofs.Cases.{split, clash}
 use Rattle.lexical.proofs.Names.{block-stands, raw-stands}
 use Rattle.lexical.proofs.Members.{block-first, raw-first}
 use Rattle.rules.specs.Search.{choose, begins}
@@ -54,7 +49,7 @@ slash-first : (s : List ℕ) → begins (bytes "</") s ≡ true → isLetter (fi
 slash-first [] h = clash false h refl
 slash-first (x ∷ []) h = refl
 slash-first (x ∷ y ∷ s) h =
-    let e = eqb-true y (byte "/") (and-left (eqb y (byte "/")) true (and-right (eqb x (byte "<")) (eqb y (byte "/") && true) h)) in rw e
+    let e = eqb-true y (byte "/") (and_parts (eqb y (byte "/")) true (and_parts (eqb x (byte "<")) (eqb y (byte "/") && true) h).1).0 in rw e
 
 -- so a name of a list whose names begin with a letter is the tag's
 module _ (isName : List ℕ → Bool) (letter : (n : List ℕ) → isName n ≡ true → isLetter (first n) ≡ true) (s : List ℕ) where
@@ -69,19 +64,19 @@ raw-name : (s : List ℕ) → startsRaw s ≡ true → isRawName (tagName s) ≡
 unfolding startsRaw
 raw-name s h =
     behind-mark isRawName raw-first s
-    (and-left (isRawName (nameOf (drop 1 s))) (nameEnds (afterName (drop 1 s))) (and-right (begins (bytes "<") s) (isRawName (nameOf (drop 1 s)) && nameEnds (afterName (drop 1 s))) h))
+    (and_parts (isRawName (nameOf (drop 1 s))) (nameEnds (afterName (drop 1 s))) (and_parts (begins (bytes "<") s) (isRawName (nameOf (drop 1 s)) && nameEnds (afterName (drop 1 s))) h).1).0
 
 block-name : (s : List ℕ) → basicName s ≡ true → isBlockName (nameOf s) ≡ true
-block-name s h = and-left (isBlockName (nameOf s)) (nameEnds (afterName s) || begins (bytes "/>") (afterName s)) h
+block-name s h = (and_parts (isBlockName (nameOf s)) (nameEnds (afterName s) || begins (bytes "/>") (afterName s)) h).0
 
 basic-name : (s : List ℕ) → startsBasic s ≡ true → isBlockName (tagName s) ≡ true
 unfolding startsBasic
 basic-name s h =
     split (begins (bytes "<") s && basicName (drop 1 s))
-    (λ e. behind-mark isBlockName block-first s (block-name (drop 1 s) (and-right (begins (bytes "<") s) (basicName (drop 1 s)) e)))
+    (λ e. behind-mark isBlockName block-first s (block-name (drop 1 s) (and_parts (begins (bytes "<") s) (basicName (drop 1 s)) e).1))
     (λ e.
     let t : (begins (bytes "</") s && basicName (drop 2 s)) ≡ true = rw e at h in
-    behind-slash isBlockName block-first s (and-left (begins (bytes "</") s) (basicName (drop 2 s)) t) (block-name (drop 2 s) (and-right (begins (bytes "</") s) (basicName (drop 2 s)) t)))
+    behind-slash isBlockName block-first s (and_parts (begins (bytes "</") s) (basicName (drop 2 s)) t).0 (block-name (drop 2 s) (and_parts (begins (bytes "</") s) (basicName (drop 2 s)) t).1))
 
 -- ---- the line
 module _ (ρ : Rules) (l : Line) where

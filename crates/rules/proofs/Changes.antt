@@ -1,15 +1,11 @@
 -- Where each of the eight changes is read. Inline: at `<![` only T2, elsewhere only T1. Blocks: kinds 1 to 6 read only F1, and of these kind 5 alone; whether a line
 -- opens kind 7 is a bit, and the readings without one change bound it from both sides.
-use mathlib.Core.Path.{◌≡◌, refl, sym, ◌∙◌, ap}
-use mathlib.Core.Bool.{Bool, true, false, ◌&&◌, ◌||◌, not}
-use mathlib.Core.List.{List, [], ◌∷◌}
-use Prim.Native.Nat.{ℕ, zero, suc, ◌+◌}
-use lib.Dec.{leb, eqb}
-use lib.ListN.{length, drop}
+use Rattle.std.proofs.Common.{◌≡◌, refl, sym, ◌∙◌, ap, Bool, true, false, ◌&&◌, ◌||◌, not, List, [], ◌∷◌, ℕ, zero, suc, ◌+◌, leb, eqb, length, drop}
+use Rattle.std.proofs.lemmas.Bool.{and_parts}
 use Rattle.lexical.specs.Text.{bytes, first}
 use Rattle.lexical.specs.Byte.{isLetter}
 use Rattle.lexical.specs.Name.{isRawName}
-use Rattle.lexical.proofs.Cases.{split, clash, and-left, and-right}
+use Rattle.lexical.proofs.Cases.{split, clash}
 use Rattle.rules.specs.Reading.{Change, F1, F2, F3, F4, F5, F6, T1, T2, standard, without}
 use Rattle.rules.specs.Search.{choose, begins, Left, left, nothing}
 use Rattle.rules.specs.Tag.{blockTags, openTag, closingTag}
@@ -145,23 +141,23 @@ module _ (f : ℕ) (s : List ℕ) where
   -- all on takes the line: so does the standard
   pub falls : ((c : Change) → seventh (without c) f s ≡ true) → seventh standard f s ≡ true
   falls h =
-      let may : mayStart standard f ≡ true = and-right (startsComplete (without F6) s) (mayStart (without F6) f) (h F6) in
+      let may : mayStart standard f ≡ true = (and_parts (startsComplete (without F6) s) (mayStart (without F6) f) (h F6)).1 in
       split closed (λ e. simp (by-closing standard e, may))
       (λ e.
-      let open-of : (c : Change) → (((without c).f3 || not raw) && opened (without c)) ≡ true = λ c. by-open (without c) e (and-left (startsComplete (without c) s) (mayStart (without c) f) (h c)) in
-      let plain : not raw ≡ true = and-left (not raw) (opened (without F3)) (open-of F3) in
+      let open-of : (c : Change) → (((without c).f3 || not raw) && opened (without c)) ≡ true = λ c. by-open (without c) e (and_parts (startsComplete (without c) s) (mayStart (without c) f) (h c)).0 in
+      let plain : not raw ≡ true = (and_parts (not raw) (opened (without F3)) (open-of F3)).0 in
       let tag : opened standard ≡ true = open-falls s (open-of F2) (open-of F5) in
       simp (complete-of standard (simp (plain, tag)), may))
 
   -- the standard takes the line: so does the reading without F4
   pub grows : seventh standard f s ≡ true → seventh (without F4) f s ≡ true
   grows h =
-      let may : not (isInterrupt f) ≡ true = or-true (not (isInterrupt f)) false (and-right (startsComplete standard s) (mayStart standard f) h) refl in
-      let complete = and-left (startsComplete standard s) (mayStart standard f) h in
+      let may : not (isInterrupt f) ≡ true = or-true (not (isInterrupt f)) false (and_parts (startsComplete standard s) (mayStart standard f) h).1 refl in
+      let complete = (and_parts (startsComplete standard s) (mayStart standard f) h).0 in
       split closed (λ e. simp (by-closing (without F4) e, may))
       (λ e.
       let both = by-open standard e complete in
-      let tag : opened (without F4) ≡ true = open-grows s (and-right (not raw) (opened standard) both) in
+      let tag : opened (without F4) ≡ true = open-grows s (and_parts (not raw) (opened standard) both).1 in
       simp (complete-of (without F4) (simp tag), may))
 
 -- ---- blocks

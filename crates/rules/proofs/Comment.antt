@@ -1,13 +1,8 @@
 -- The standard's three alternatives of a comment come to one rule: `<!--`, and the first `-->` that begins at or after the opening's third byte.
-use mathlib.Core.Path.{◌≡◌, refl}
-use mathlib.Core.Bool.{true, false}
-use mathlib.Core.List.{List, [], ◌∷◌, ◌++◌}
-use Prim.Native.Nat.{ℕ}
-use lib.Dec.{eqb}
-use lib.ListN.{length, drop}
-use borrow.Author.Tests.{eqb-true}
+use Rattle.std.proofs.Common.{◌≡◌, refl, true, false, List, [], ◌∷◌, ◌++◌, ℕ, eqb, length, drop, eqb-true}
+use Rattle.std.proofs.lemmas.Bool.{and_parts}
 use Rattle.lexical.specs.Text.{bytes}
-use Rattle.lexical.proofs.Cases.{split, clash, and-left, and-right}
+use Rattle.lexical.proofs.Cases.{split, clash}
 use Rattle.rules.specs.Search.{choose, begins, nothing, throughFirst}
 use Rattle.rules.specs.Inline.{comment}
 
@@ -15,7 +10,7 @@ use Rattle.rules.specs.Inline.{comment}
 pub begins-is : (p s : List ℕ) → begins p s ≡ true → s ≡ p ++ drop (length p) s
 begins-is [] s h = refl
 begins-is (p ∷ ps) [] h = cc
-begins-is (p ∷ ps) (x ∷ xs) h = cc (eqb-true x p (and-left (eqb x p) (begins ps xs) h), begins-is ps xs (and-right (eqb x p) (begins ps xs) h))
+begins-is (p ∷ ps) (x ∷ xs) h = cc (eqb-true x p (and_parts (eqb x p) (begins ps xs) h).0, begins-is ps xs (and_parts (eqb x p) (begins ps xs) h).1)
 
 -- a text that does not begin with p begins with nothing longer
 pub begins-longer : (p q s : List ℕ) → begins p s ≡ false → begins (p ++ q) s ≡ false

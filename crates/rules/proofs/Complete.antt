@@ -1,16 +1,12 @@
 -- Open tags in two readings, with any property of what is left behind the tag, so that both scans can use it. A tag of a block that the standard takes is taken
 -- without F4 too: the other changes only admit more. A tag whose values hold no `/`, that is taken where no name begins with a digit and taken where no further
 -- value follows, is taken by the standard: where such a value ends at a `/`, the tag's end must follow, so that the standard's longer value ends at the same `>`.
-use mathlib.Core.Path.{◌≡◌, refl, sym, ap}
-use mathlib.Core.Bool.{Bool, true, false, ◌&&◌, not}
-use mathlib.Core.List.{List, [], ◌∷◌}
-use Prim.Native.Nat.{ℕ, zero, suc}
-use lib.Dec.{eqb}
-use lib.ListN.{drop, length}
-use borrow.Author.Tests.{eqb-true}
+use Rattle.std.proofs.Common.{◌≡◌, refl, sym, ap, Bool, true, false, ◌&&◌, not, List, [], ◌∷◌, ℕ, zero, suc, eqb, drop, length, eqb-true}
+use Rattle.std.proofs.lemmas.Bool.{and_parts}
+use Rattle.std.proofs.Math.Bool.{and-false}
 use Rattle.lexical.specs.Text.{byte, bytes, first}
 use Rattle.lexical.specs.Byte.{isDigit, isLetter, isWhitespace, isTagNameByte, isAttributeNameStart, isAttributeNameByte, isQuote, isValueExcluded, isNameStart, isValueEnd}
-use Rattle.lexical.proofs.Cases.{split, clash, and-left, and-right, and-no}
+use Rattle.lexical.proofs.Cases.{split, clash}
 use Rattle.rules.specs.Reading.{F2, F4, F5, crate, standard, without}
 use Rattle.rules.specs.Search.{choose, begins, past, Left, left, nothing}
 use Rattle.rules.specs.Tag.{Grammar, inlineTags, blockTags, tagEnd, pastQuote, specification, startsName, pastUnquoted, value, values, attributes, openTag}
@@ -66,7 +62,7 @@ start-grows true x h =
 no-sign : (g : Grammar) (n : ℕ) (s xs : List ℕ) → past isWhitespace s ≡ byte "=" ∷ xs → attributes g n s ≡ nothing
 unfolding attributes tagEnd
 no-sign g zero s xs e = refl
-no-sign g (suc n) s xs e = simp (e, and-no)
+no-sign g (suc n) s xs e = simp (e, and-false)
 
 -- a property that holds of what is left, and not where nothing is found
 module _ (P : Left → Type 0) (never : P nothing → ⊥) where
@@ -127,13 +123,13 @@ module _ (P : Left → Type 0) (never : P nothing → ⊥) where
   attributes-grow (suc n) s h =
       split (isWhitespace (first s) && isNameStart false (first (past isWhitespace s)))
       (λ e.
-      let a = and-left (isWhitespace (first s)) (isNameStart false (first (past isWhitespace s))) e in
-      let b = start-grows true (first (past isWhitespace s)) (and-right (isWhitespace (first s)) (isNameStart false (first (past isWhitespace s))) e) in
+      let a = (and_parts (isWhitespace (first s)) (isNameStart false (first (past isWhitespace s))) e).0 in
+      let b = start-grows true (first (past isWhitespace s)) (and_parts (isWhitespace (first s)) (isNameStart false (first (past isWhitespace s))) e).1 in
       let t = drop 1 (past isWhitespace s) in
       let less = attributes (standardTags false) n in
       let more = attributes withoutF4 n in
       simp (a, b) (specification-grows less more (attributes-grow n) (sign (standardTags false) n) (values (standardTags false) less (length t)) (values withoutF4 more (length t)) (past isAttributeNameByte t) (values-grow less more (attributes-grow n) (sign (standardTags false) n) (length t)) (simp e at h)))
-      (λ e. let k = simp e at h in simp (end-first withoutF4 (past isWhitespace s) k, and-no) k)
+      (λ e. let k = simp e at h in simp (end-first withoutF4 (past isWhitespace s) k, and-false) k)
 
   tag-grows : (s : List ℕ) → Yes (openTag (standardTags false)) s → Yes (openTag withoutF4) s
   unfolding openTag
@@ -217,8 +213,8 @@ module _ (P : Left → Type 0) (never : P nothing → ⊥) where
     attributes-fall (suc n) s g h =
         split (isWhitespace (first s) && isNameStart false (first (past isWhitespace s)))
         (λ e.
-        let a = and-left (isWhitespace (first s)) (isNameStart false (first (past isWhitespace s))) e in
-        let k = start-grows d (first (past isWhitespace s)) (and-right (isWhitespace (first s)) (isNameStart false (first (past isWhitespace s))) e) in
+        let a = (and_parts (isWhitespace (first s)) (isNameStart false (first (past isWhitespace s))) e).0 in
+        let k = start-grows d (first (past isWhitespace s)) (and_parts (isWhitespace (first s)) (isNameStart false (first (past isWhitespace s))) e).1 in
         let t = drop 1 (past isWhitespace s) in
         let b = attributes (noDigits f m) n in
         let c = attributes (noFurther f d) n in

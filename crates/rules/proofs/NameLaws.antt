@@ -1,11 +1,5 @@
 -- A tag's name and what follows it are cut at the end of the name. Names of a list begin with a letter, so where no letter stands none of them does.
-use mathlib.Core.Path.{◌≡◌, refl, sym, ◌∙◌, ap}
-use mathlib.Core.Bool.{Bool, true, false}
-use mathlib.Core.List.{List, [], ◌∷◌}
-use Prim.Native.Nat.{ℕ, ◌+◌, ◌-◌}
-use native.Mathlib.Omega.{arith}
-use lib.ListN.{take, drop}
-use lib.Seq.{drop-drop}
+use Rattle.std.proofs.Common.{◌≡◌, refl, sym, ◌∙◌, ap, Bool, true, false, List, [], ◌∷◌, ℕ, ◌+◌, ◌-◌, arith, take, drop, drop-drop}
 use Rattle.lexical.specs.Text.{first, run}
 use Rattle.lexical.specs.Byte.{isLetter, isTagNameByte}
 use Rattle.lexical.proofs.Cases.{split, clash}

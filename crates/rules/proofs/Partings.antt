@@ -1,14 +1,8 @@
--- Wherever the reading of the Rust and the standard's part, one of the eight applies, at the place listed for it: 02, Ask 5. Inline: at `<![` leaving T2 out gives the
+-- Wherever the reading of the Rust and the standard's part, one of the eight applies, at the place listed for it: SCOPE, The book's own reading. Inline: at `<![` leaving T2 out gives the
 -- standard; elsewhere leaving T1 out does, a tag that is found with T1 is found without it, and where a tag is found nothing else begins. Blocks: which of kinds 1 to
 -- 6 a line opens no change decides, and what is found reads none but kind 5, which reads F1; whether a line opens kind 7 is a bit. So where none of the eight applies
--- the readings do not part, which is demand 2's sentence on the changes.
-use mathlib.Core.Path.{◌≡◌, refl, sym, ◌∙◌, ap}
-use mathlib.Core.Bool.{Bool, true, false}
-use mathlib.Core.List.{List, [], ◌∷◌}
-use Prim.Native.Nat.{ℕ, ◌-◌}
-use lib.Dec.{eqb}
-use lib.ListN.{length, drop}
-use borrow.Author.Tests.{eqb-true}
+-- the readings do not part, which is the sentence on the changes (SCOPE, The demands).
+use Rattle.std.proofs.Common.{◌≡◌, refl, sym, ◌∙◌, ap, Bool, true, false, List, [], ◌∷◌, ℕ, ◌-◌, eqb, length, drop, eqb-true}
 use Rattle.lexical.specs.Text.{byte, bytes}
 use Rattle.lexical.specs.Byte.{isLetter}
 use Rattle.lexical.proofs.Cases.{split, clash, excluded}

@@ -1,14 +1,9 @@
 -- Laws of what is left behind a class, of a test that holds somewhere, and of where it first does.
-use mathlib.Core.Path.{◌≡◌, refl}
-use mathlib.Core.Bool.{Bool, true, false, ◌||◌}
-use mathlib.Core.List.{List, [], ◌∷◌}
-use Prim.Native.Nat.{ℕ, ◌+◌, ◌<◌, ◌≤◌}
-use native.Mathlib.Omega.{arith}
-use lib.ListN.{length, drop}
+use Rattle.std.proofs.Common.{◌≡◌, refl, Bool, true, false, ◌||◌, List, [], ◌∷◌, ℕ, ◌+◌, ◌<◌, ◌≤◌, arith, length, drop}
+use Rattle.std.proofs.lemmas.List.{drop_all, drop_more}
 use Rattle.lexical.specs.Text.{run}
 use Rattle.lexical.proofs.Cases.{split}
 use Rattle.lexical.proofs.Run.{behind-at, behind-from}
-use Rattle.lexical.proofs.Suffix.{suffix-in, suffix-out}
 use Rattle.rules.specs.Search.{past, somewhere, before}
 
 -- behind the run of a class
@@ -38,11 +33,11 @@ past-length f (x ∷ xs) = split (f x) (λ h. let l = past-length f xs in simp h
 module _ (f : List ℕ → Bool) (s : List ℕ) (i : ℕ) where
   pub somewhere-in : i < length s → somewhere f (drop i s) ≡ (f (drop i s) || somewhere f (drop (i + 1) s))
   unfolding somewhere
-  somewhere-in h = rw (suffix-in s i h)
+  somewhere-in h = rw (drop_more s i 0 h)
 
   pub somewhere-out : length s ≤ i → somewhere f (drop i s) ≡ false
   unfolding somewhere
-  somewhere-out h = rw (suffix-out s i h)
+  somewhere-out h = rw (drop_all i s h)
 
   -- where it first holds from the index on
   abbrev pub firstFrom : ℕ
@@ -50,15 +45,15 @@ module _ (f : List ℕ → Bool) (s : List ℕ) (i : ℕ) where
 
   pub first-here : i < length s → f (drop i s) ≡ true → firstFrom ≡ i
   unfolding before
-  first-here h e = let t = rw (suffix-in s i h) at e in rw (suffix-in s i h, t) (omega arith)
+  first-here h e = let t = rw (drop_more s i 0 h) at e in rw (drop_more s i 0 h, t) (omega arith)
 
   pub first-on : i < length s → f (drop i s) ≡ false → firstFrom ≡ i + 1 + before f (drop (i + 1) s)
   unfolding before
-  first-on h e = let t = rw (suffix-in s i h) at e in rw (suffix-in s i h, t) (omega arith)
+  first-on h e = let t = rw (drop_more s i 0 h) at e in rw (drop_more s i 0 h, t) (omega arith)
 
   pub first-out : length s ≤ i → firstFrom ≡ i
   unfolding before
-  first-out h = rw (suffix-out s i h) (omega arith)
+  first-out h = rw (drop_all i s h) (omega arith)
 
 -- a class of bytes at which the test does not hold can be passed over
 module _ (g : ℕ → Bool) (f : List ℕ → Bool) (no : (x : ℕ) (xs : List ℕ) → g x ≡ true → f (x ∷ xs) ≡ false) where

@@ -1,15 +1,10 @@
 -- A word stands in front of a text where all of its bytes are counted there; of one byte and of two parts it is said in other words.
-use mathlib.Core.Path.{◌≡◌, refl, sym, ◌∙◌, ap}
-use mathlib.Core.Bool.{false, ◌&&◌}
-use mathlib.Core.List.{List, [], ◌∷◌, ◌++◌}
-use Prim.Native.Nat.{ℕ, suc, ◌+◌}
-use native.Mathlib.Omega.{arith}
-use lib.Dec.{eqb}
-use lib.ListN.{length, drop}
-use borrow.Author.Tests.{eqb-true, eqb-false, eq-eqb, ne_eqb}
+use Rattle.std.proofs.Common.{◌≡◌, refl, sym, ◌∙◌, ap, false, ◌&&◌, List, [], ◌∷◌, ◌++◌, ℕ, suc, ◌+◌, arith, eqb, length, drop, eqb-true, eq-eqb, ne_eqb}
+use Rattle.std.proofs.Math.Bool.{and-true}
+use borrow.Author.Tests.{eqb-false}
 use Rattle.lexical.specs.Text.{none, first}
 use Rattle.lexical.specs.Name.{cdataPrefix, matched, cdataLetters}
-use Rattle.lexical.proofs.Cases.{split, and-yes}
+use Rattle.lexical.proofs.Cases.{split}
 use Rattle.lexical.proofs.Prefix.{cdata-size}
 use Rattle.rules.specs.Search.{begins}
 
@@ -34,7 +29,7 @@ cdata-whole s =
 -- a word of one byte
 pub one-first : (p : ℕ) (s : List ℕ) → eqb none p ≡ false → begins (p ∷ []) s ≡ eqb (first s) p
 one-first p [] e = sym e
-one-first p (x ∷ xs) e = and-yes (eqb x p)
+one-first p (x ∷ xs) e = and-true (eqb x p)
 
 -- a word of two parts
 pub begins-parts : (p q s : List ℕ) → begins (p ++ q) s ≡ (begins p s && begins q (drop (length p) s))

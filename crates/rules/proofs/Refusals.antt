@@ -1,14 +1,31 @@
 -- Laws of refusals: down the table, the first check that applies is given.
-use mathlib.Core.Path.{◌≡◌, refl, ap}
-use mathlib.Core.Bool.{Bool, true, false, ◌&&◌, not}
-use mathlib.Core.List.{List, [], ◌∷◌, ◌++◌}
-use Prim.Native.Nat.{ℕ, ◌<◌, ◌≤◌}
-use lib.Dec.{eqb}
-use lib.ListN.{length}
-use borrow.Author.Tests.{eq-eqb, eqb-true, ne_eqb, lt-ltb, le-ltb}
-use Rattle.lexical.proofs.Cases.{split, clash, and-left, and-right}
+use Rattle.std.proofs.Common.{◌≡◌, refl, ap, Bool, true, false, ◌&&◌, not, List, [], ◌∷◌, ◌++◌, ℕ, ◌<◌, ◌≤◌, eqb, length, eq-eqb, eqb-true, ne_eqb, lt-ltb, le-ltb, Result, Ok, Err}
+use Rattle.std.proofs.lemmas.Bool.{and_parts}
+use Rattle.lexical.proofs.Cases.{split, clash}
+use Rattle.std.specs.Result.{IsErrAnd}
 use Rattle.rules.specs.Search.{choose}
-use Rattle.rules.specs.Refusal.{Check, check, refusal, outputRefusal}
+use Rattle.rules.specs.Refusal.{Check, check, refusal, outputRefusal, refusalNumber}
+use Rattle.rules.specs.declared.refusal.Refusal.{Refusal}
+use Rattle.rules.specs.declared.refusal.Refusal.TheVariants.{TooLong, WrongCount, WrongFlag, WrongIndex, WrongCarry, BlankLine, NoRoom, WrongKind, CutOff, NotEnded, NotNarrow}
+
+-- ---- the code's refusals
+pub refusal-positive : (r : Refusal) → refusalNumber r ≡ 0 → ⊥
+refusal-positive TooLong h = cc
+refusal-positive WrongCount h = cc
+refusal-positive WrongFlag h = cc
+refusal-positive WrongIndex h = cc
+refusal-positive WrongCarry h = cc
+refusal-positive BlankLine h = cc
+refusal-positive NoRoom h = cc
+refusal-positive WrongKind h = cc
+refusal-positive CutOff h = cc
+refusal-positive NotEnded h = cc
+refusal-positive NotNarrow h = cc
+
+-- what `?` passes on
+pub raised : {A : Type 0} (r : Result A Refusal) {e : Refusal} → IsErrAnd r (λ x. x ≡ e) → r ≡ Err e
+raised (Ok a) h = absurd h
+raised (Err x) h = ap Err h
 
 -- ---- the first check
 pub applies : (b : Bool) (n : ℕ) (cs : List Check) → b ≡ true → refusal (check b n ∷ cs) ≡ n
@@ -38,16 +55,16 @@ numbered (check b n ∷ cs) = not (eqb n 0) && numbered cs
 pub passed-front : (cs ds : List Check) → numbered cs ≡ true → refusal cs ≡ 0 → refusal (cs ++ ds) ≡ refusal ds
 unfolding refusal
 passed-front [] ds k h = refl
-passed-front (check true n ∷ cs) ds k h = clash (not (eqb n 0)) (and-left (not (eqb n 0)) (numbered cs) k) (ap not (eq-eqb n 0 h))
-passed-front (check false n ∷ cs) ds k h = passed-front cs ds (and-right (not (eqb n 0)) (numbered cs) k) h
+passed-front (check true n ∷ cs) ds k h = clash (not (eqb n 0)) (and_parts (not (eqb n 0)) (numbered cs) k).0 (ap not (eq-eqb n 0 h))
+passed-front (check false n ∷ cs) ds k h = passed-front cs ds (and_parts (not (eqb n 0)) (numbered cs) k).1 h
 
 -- where nothing is refused, no test applies
 pub not-met : (cs ds : List Check) (b : Bool) (n : ℕ) → numbered cs ≡ true → eqb n 0 ≡ false → refusal (cs ++ (check b n ∷ ds)) ≡ 0 → b ≡ false
 unfolding refusal
 not-met [] ds true n k e h = clash (eqb n 0) (eq-eqb n 0 h) e
 not-met [] ds false n k e h = refl
-not-met (check true m ∷ cs) ds b n k e h = clash (not (eqb m 0)) (and-left (not (eqb m 0)) (numbered cs) k) (ap not (eq-eqb m 0 h))
-not-met (check false m ∷ cs) ds b n k e h = not-met cs ds b n (and-right (not (eqb m 0)) (numbered cs) k) e h
+not-met (check true m ∷ cs) ds b n k e h = clash (not (eqb m 0)) (and_parts (not (eqb m 0)) (numbered cs) k).0 (ap not (eq-eqb m 0 h))
+not-met (check false m ∷ cs) ds b n k e h = not-met cs ds b n (and_parts (not (eqb m 0)) (numbered cs) k).1 e h
 
 -- ---- an entry that writes: the refusal of what it reads comes first; then the buffer is too short, or the output fits
 pub output-first : (n room : ℕ) (output : List ℕ) → (n ≡ 0 → ⊥) → outputRefusal n room output ≡ n

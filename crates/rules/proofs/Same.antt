@@ -1,10 +1,7 @@
 -- The tests of specs/Rows.antt that tell two answers apart: an answer passes with itself and with no other, so what passes is equal, and what does not is not.
-use mathlib.Core.Path.{◌≡◌, refl, sym, ◌∙◌, ap}
-use mathlib.Core.Bool.{Bool, true, false, ◌&&◌}
-use Prim.Native.Nat.{ℕ}
-use lib.Dec.{eqb}
-use borrow.Author.Tests.{eqb-true, eq-eqb}
-use Rattle.lexical.proofs.Cases.{clash, and-left, and-right}
+use Rattle.std.proofs.Common.{◌≡◌, refl, sym, ◌∙◌, ap, Bool, true, false, ◌&&◌, ℕ, eqb, eqb-true, eq-eqb}
+use Rattle.std.proofs.lemmas.Bool.{and_parts}
+use Rattle.lexical.proofs.Cases.{clash}
 use Rattle.rules.specs.Scan.{InlineAnswer, foundInline, noInline, refusedInline, Found, found, BlockAnswer, foundBlock, noBlock, refusedBlock}
 use Rattle.rules.specs.Rows.{sameBit, sameInline, sameBlock}
 
@@ -27,7 +24,7 @@ inline-self (noInline k) = eq-eqb k k refl
 inline-self (refusedInline n k) = rw (eq-eqb n n refl, eq-eqb k k refl) refl
 
 both : (f : ℕ → ℕ → InlineAnswer) (s t k l : ℕ) → (eqb s t && eqb k l) ≡ true → f s k ≡ f t l
-both f s t k l h = rw (eqb-true s t (and-left (eqb s t) (eqb k l) h), eqb-true k l (and-right (eqb s t) (eqb k l) h)) refl
+both f s t k l h = rw (eqb-true s t (and_parts (eqb s t) (eqb k l) h).0, eqb-true k l (and_parts (eqb s t) (eqb k l) h).1) refl
 
 pub inline-same : (a b : InlineAnswer) → sameInline a b ≡ true → a ≡ b
 inline-same (foundInline s k) (foundInline t l) h = both foundInline s t k l h
@@ -54,15 +51,15 @@ found-same a b h =
     let stop = eqb a.stop b.stop in
     let closed = sameBit a.closed b.closed in
     let closer = eqb a.closer b.closer in
-    let behind-kind = and-right kind (name && (stop && (closed && closer))) h in
-    let behind-name = and-right name (stop && (closed && closer)) behind-kind in
-    let behind-stop = and-right stop (closed && closer) behind-name in
+    let behind-kind = (and_parts kind (name && (stop && (closed && closer))) h).1 in
+    let behind-name = (and_parts name (stop && (closed && closer)) behind-kind).1 in
+    let behind-stop = (and_parts stop (closed && closer) behind-name).1 in
     fields
-    (eqb-true a.kind b.kind (and-left kind (name && (stop && (closed && closer))) h))
-    (eqb-true a.name b.name (and-left name (stop && (closed && closer)) behind-kind))
-    (eqb-true a.stop b.stop (and-left stop (closed && closer) behind-name))
-    (bit-same a.closed b.closed (and-left closed closer behind-stop))
-    (eqb-true a.closer b.closer (and-right closed closer behind-stop))
+    (eqb-true a.kind b.kind (and_parts kind (name && (stop && (closed && closer))) h).0)
+    (eqb-true a.name b.name (and_parts name (stop && (closed && closer)) behind-kind).0)
+    (eqb-true a.stop b.stop (and_parts stop (closed && closer) behind-name).0)
+    (bit-same a.closed b.closed (and_parts closed closer behind-stop).0)
+    (eqb-true a.closer b.closer (and_parts closed closer behind-stop).1)
   where
     fields : a.kind ≡ b.kind → a.name ≡ b.name → a.stop ≡ b.stop → a.closed ≡ b.closed → a.closer ≡ b.closer
         → found a.kind a.name a.stop a.closed a.closer ≡ found b.kind b.name b.stop b.closed b.closer

@@ -1,14 +1,9 @@
--- The tables of specs/Witness.antt and specs/Counterexamples.antt, said of the statements. A row's tests are the premises of demand 3 one by one, so that a row
+-- The tables of specs/Witness.antt and specs/Counterexamples.antt, said of the statements. A row's tests are the premises of privacy one by one, so that a row
 -- which meets them is a swap. A test that tells two answers or two texts apart passes a thing and itself, so what it tells apart is not equal.
-use mathlib.Core.Path.{◌≡◌, refl}
-use mathlib.Core.Bool.{Bool, true, ◌&&◌, not}
-use mathlib.Core.List.{List, [], ◌∷◌, ◌++◌}
-use Prim.Native.Nat.{ℕ}
-use lib.Dec.{eqb}
-use lib.ListN.{length}
-use borrow.Author.Tests.{eqb-true, eq-eqb, not-true}
+use Rattle.std.proofs.Common.{◌≡◌, refl, Bool, true, ◌&&◌, not, List, [], ◌∷◌, ◌++◌, ℕ, eqb, length, eqb-true, eq-eqb}
+use Rattle.std.proofs.lemmas.Bool.{and_parts}
+use borrow.Author.Tests.{not-true}
 use Rattle.lexical.specs.Name.{all, sameBytes}
-use Rattle.lexical.proofs.Cases.{and-left, and-right}
 use Rattle.rules.specs.Reading.{Change, crate, standard, without}
 use Rattle.rules.specs.Scan.{InlineAnswer, inlineScan, BlockAnswer, blockScan}
 use Rattle.rules.specs.Partings.{Parts, Applies}
@@ -29,32 +24,32 @@ Each P (x ∷ xs) = P x × Each P xs
 each : {A : Type 0} (P : A → Type 0) (test : A → Bool) → ((x : A) → test x ≡ true → P x) → (xs : List A) → all test xs ≡ true → Each P xs
 unfolding all
 each P test f [] h = tt
-each P test f (x ∷ xs) h = (f x (and-left (test x) (all test xs) h), each P test f xs (and-right (test x) (all test xs) h))
+each P test f (x ∷ xs) h = (f x (and_parts (test x) (all test xs) h).0, each P test f xs (and_parts (test x) (all test xs) h).1)
 
--- ---- demand 3
+-- ---- privacy
 -- where the premises are met there is a swap
 abbrev pub SwapOf : Rules → Row → Type 0
 SwapOf ρ r = Swap ρ (flags r) (one r) (two r)
 
 pub swap : (ρ : Rules) (r : Row) → meets ρ r ≡ true → SwapOf ρ r
 swap ρ (body k b f x y a) h =
-    let private = and-left (all isPrivate x && all isPrivate y) (withheld ρ (body k b f x y a)) h in
+    let private = (and_parts (all isPrivate x && all isPrivate y) (withheld ρ (body k b f x y a)) h).0 in
     in-line
-    (record { before = b; form = f; body₁ = x; body₂ = y; after = a; private₁ = and-left (all isPrivate x) (all isPrivate y) private; private₂ = and-right (all isPrivate x) (all isPrivate y) private; one-is = refl; two-is = refl })
-    (and-right (all isPrivate x && all isPrivate y) (withheld ρ (body k b f x y a)) h)
+    (record { before = b; form = f; body₁ = x; body₂ = y; after = a; private₁ = (and_parts (all isPrivate x) (all isPrivate y) private).0; private₂ = (and_parts (all isPrivate x) (all isPrivate y) private).1; one-is = refl; two-is = refl })
+    (and_parts (all isPrivate x && all isPrivate y) (withheld ρ (body k b f x y a)) h).1
 swap ρ (whole k b x y a) h =
     let r = whole k b x y a in
-    let lines = and-left (consists isPrivate r) (withheld ρ r) h in
-    let private = and-right (eqb (length x) (length y)) (all (all isPrivate) x && all (all isPrivate) y) lines in
+    let lines = (and_parts (consists isPrivate r) (withheld ρ r) h).0 in
+    let private = (and_parts (eqb (length x) (length y)) (all (all isPrivate) x && all (all isPrivate) y) lines).1 in
     in-block
-    (record { before = b; lines₁ = x; lines₂ = y; after = a; same-number = eqb-true (length x) (length y) (and-left (eqb (length x) (length y)) (all (all isPrivate) x && all (all isPrivate) y) lines); private₁ = and-left (all (all isPrivate) x) (all (all isPrivate) y) private; private₂ = and-right (all (all isPrivate) x) (all (all isPrivate) y) private; one-is = refl; two-is = refl })
-    (and-right (consists isPrivate r) (withheld ρ r) h)
+    (record { before = b; lines₁ = x; lines₂ = y; after = a; same-number = eqb-true (length x) (length y) (and_parts (eqb (length x) (length y)) (all (all isPrivate) x && all (all isPrivate) y) lines).0; private₁ = (and_parts (all (all isPrivate) x) (all (all isPrivate) y) private).0; private₂ = (and_parts (all (all isPrivate) x) (all (all isPrivate) y) private).1; one-is = refl; two-is = refl })
+    (and_parts (consists isPrivate r) (withheld ρ r) h).1
 
 pub crate-swaps : Each (SwapOf crate) swaps
-crate-swaps = each (SwapOf crate) (meets crate) (swap crate) swaps (and-left (all (meets crate) swaps) (all (meets standard) swaps) swaps-meet)
+crate-swaps = each (SwapOf crate) (meets crate) (swap crate) swaps (and_parts (all (meets crate) swaps) (all (meets standard) swaps) swaps-meet).0
 
 pub standard-swaps : Each (SwapOf standard) swaps
-standard-swaps = each (SwapOf standard) (meets standard) (swap standard) swaps (and-right (all (meets crate) swaps) (all (meets standard) swaps) swaps-meet)
+standard-swaps = each (SwapOf standard) (meets standard) (swap standard) swaps (and_parts (all (meets crate) swaps) (all (meets standard) swaps) swaps-meet).1
 
 -- ---- what a test tells apart is not equal
 same-self : (s : List ℕ) → sameBytes s s ≡ true
@@ -74,26 +69,26 @@ abbrev pub rowOf : Excluded → Row
 rowOf (excluded b r) = r
 
 needed-differ : (ρ : Rules) (e : Excluded) → needed ρ e ≡ true → Differ ρ (rowOf e)
-needed-differ ρ (excluded b r) h = differ ρ r (and-left (not (sameShown ρ r)) _ h)
+needed-differ ρ (excluded b r) h = differ ρ r (and_parts (not (sameShown ρ r)) _ h).0
 
 unheld-differ : (ρ : Rules) (r : Row) → unheld ρ r ≡ true → Differ ρ r
-unheld-differ ρ r h = differ ρ r (and-left (not (sameShown ρ r)) _ h)
+unheld-differ ρ r h = differ ρ r (and_parts (not (sameShown ρ r)) _ h).0
 
--- with the byte private demand 3 would be false, and so it would be of lines that run one does not withhold
+-- with the byte private privacy would be false, and so it would be of lines that run one does not withhold
 pub bytes-differ : Each (λ e. Differ crate (rowOf e)) (brackets ++ bodies)
-bytes-differ = each _ (needed crate) (needed-differ crate) (brackets ++ bodies) (and-left (all (needed crate) (brackets ++ bodies)) (all (needed standard) bodies) bytes-needed)
+bytes-differ = each _ (needed crate) (needed-differ crate) (brackets ++ bodies) (and_parts (all (needed crate) (brackets ++ bodies)) (all (needed standard) bodies) bytes-needed).0
 
 pub loose-differ : Each (Differ crate) (bare ∷ loose)
-loose-differ = each (Differ crate) (unheld crate) (unheld-differ crate) (bare ∷ loose) (and-left (all (unheld crate) (bare ∷ loose)) _ enclosing-needed)
+loose-differ = each (Differ crate) (unheld crate) (unheld-differ crate) (bare ∷ loose) (and_parts (all (unheld crate) (bare ∷ loose)) _ enclosing-needed).0
 
 pub escaped-differs : Differ crate escaped
-escaped-differs = unheld-differ crate escaped (and-left (unheld crate escaped) (unheld standard escaped) withholding-needed)
+escaped-differs = unheld-differ crate escaped (and_parts (unheld crate escaped) (unheld standard escaped) withholding-needed).0
 
 -- the count alone
 pub count-differs : Differ crate counted
-count-differs s = told-apart eqb _ _ (eq-eqb (count crate (one counted) (flags counted)) _ refl) (not-true (sameCount crate counted) (and-right (sameShown crate counted) (not (sameCount crate counted)) count-tells)) s.same-count
+count-differs s = told-apart eqb _ _ (eq-eqb (count crate (one counted) (flags counted)) _ refl) (not-true (sameCount crate counted) (and_parts (sameShown crate counted) (not (sameCount crate counted)) count-tells).1) s.same-count
 
--- ---- demand 2
+-- ---- the right answer
 inline-differ : (a b : InlineAnswer) → not (sameInline a b) ≡ true → ¬ (a ≡ b)
 inline-differ a b h = told-apart sameInline a b (inline-self a) (not-true (sameInline a b) h)
 
@@ -114,7 +109,7 @@ pub applies : (c : Change) → AppliesAt (place c) c
 unfolding computing
 applies c = applies-at (place c) c (eight (λ d. not (agree (place d) crate (without d)) ≡ true) refl refl refl refl refl refl refl refl c)
 
--- 02, Ask 5: the two readings part at a place
+-- SCOPE, The book's own reading: the two readings part at a place
 abbrev pub PartsAt : Place → Type 0
 PartsAt (inText text k) = Parts (λ ρ. inlineScan ρ text 0 k)
 PartsAt (inBulletin text flags) = Parts (λ ρ. blockScan ρ text flags 0)
@@ -125,4 +120,4 @@ parts-at (inBulletin text flags) h = block-differ _ _ h
 
 -- and so they do at the place of each change
 pub parts : (c : Change) → PartsAt (place c)
-parts c = parts-at (place c) (and-right (only c (λ d. not (agree (place c) crate (without d)))) (not (agree (place c) crate standard)) (each-applies c))
+parts c = parts-at (place c) (and_parts (only c (λ d. not (agree (place c) crate (without d)))) (not (agree (place c) crate standard)) (each-applies c)).1

@@ -67,7 +67,7 @@ unfoldable pub kindOf : Rules → Line → ℕ
 kindOf ρ l =
     choose (leb (indentation l.content) 3) (λ _. kindAt ρ l.flag (drop (indentation l.content) l.content)) (λ _. 0)
 
--- ---- 02, Ask 1: which name it was
+-- ---- SCOPE, Which name it was: which name it was
 -- the place of a name in the list of kind 1 or 6, counted from 0; other kinds carry 255
 abbrev pub placeIn : ℕ → List ℕ → ℕ
 placeIn k n = choose (eqb k 1) (λ _. rawPlace n) (λ _. choose (eqb k 6) (λ _. blockPlace n) (λ _. unnamed))
@@ -95,7 +95,7 @@ beforeEven n (x ∷ xs) =
     choose (begins (bytes "]]>") (x ∷ xs) && eqb (n % 2) 0) (λ _. 0)
     (λ _. suc (choose (eqb x (byte "]")) (λ _. beforeEven (suc n) xs) (λ _. beforeEven 0 xs)))
 
--- how many bytes of a line stand before the closer of kind k, the earliest in it (02, Ask 2); all, where it has none
+-- how many bytes of a line stand before the closer of kind k, the earliest in it; all, where it has none
 unfoldable pub beforeCloser : Rules → ℕ → List ℕ → ℕ
 beforeCloser ρ k s =
     choose (eqb k 1) (λ _. before isRawEnd s)
@@ -121,7 +121,7 @@ extent n c = record { lines = n; closed = c }
 abbrev pub oneMore : Extent → Extent
 oneMore e = extent (suc e.lines) e.closed
 
--- 01: a lazy line ends every kind; a blank one ends kinds 6 and 7
+-- SCOPE: a lazy line ends every kind; a blank one ends kinds 6 and 7
 abbrev pub endsBefore : ℕ → Line → Bool
 endsBefore k l = isLazy l.flag || (leb 6 k && isBlank l.content)
 
@@ -148,6 +148,6 @@ inLast f i (suc (suc n)) (l ∷ m ∷ ls) = inLast f (i + length l.content + len
 abbrev pub stopAfter : ℕ → ℕ → List Line → ℕ
 stopAfter i n ls = inLast length i n ls
 
--- 02, Ask 2: the first byte of the closer of kind k, or the end where there is none
+-- SCOPE, Where the closer stands: the first byte of the closer of kind k, or the end where there is none
 abbrev pub closerAfter : Rules → ℕ → ℕ → ℕ → List Line → ℕ
 closerAfter ρ k i n ls = inLast (beforeCloser ρ k) i n ls

@@ -1,4 +1,4 @@
--- 02, Ask 1: which name matched. A line that opens kind 1 or 6 carries the place at which the list of that kind has its tag's name.
+-- SCOPE, Which name it was. A line that opens kind 1 or 6 carries the place at which the list of that kind has its tag's name.
 use Rattle.std.specs.Prelude.{◌≡◌}
 use Rattle.lexical.specs.Name.{blockNames, rawNames, StandsAt}
 use Rattle.rules.specs.Lines.{Line}

@@ -1,4 +1,4 @@
--- 02, Ask 2: where the closer stands. Of every found block the closer tells whether one was met: it begins before the stop exactly where one was; elsewhere it is
+-- SCOPE, Where the closer stands. Of every found block the closer tells whether one was met: it begins before the stop exactly where one was; elsewhere it is
 -- the stop.
 use Rattle.std.specs.Prelude.{ℕ, ◌≤◌, ◌≡◌, List, ltb}
 use Rattle.rules.specs.Lines.{Line}

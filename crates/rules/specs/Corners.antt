@@ -1,4 +1,4 @@
--- Corners of 01 that its rows marked (P) leave out, and of 02: each row refuses a definition that is a little wrong. Proved together by one computed fact.
+-- Corners that the rows marked (P) in SCOPE leave out: each row refuses a definition that is a little wrong. Proved together by one computed fact.
 use Rattle.std.specs.Prelude.{ℕ, ◌+◌, ◌≡◌, refl, Bool, true, false, ◌&&◌, List, [], ◌∷◌, ◌++◌, eqb, length}
 use Rattle.lexical.specs.Text.{bytes, limit}
 use Rattle.lexical.specs.Name.{all, sameBytes}
@@ -61,7 +61,7 @@ blocks =
     ∷ sameBlock (blockScan crate (bytes "a\n<a>") (2 ∷ 0 ∷ []) 2) (foundBlock (found 7 255 5 false 5))
     ∷ []
 
--- 02, Ask 1: which name it was
+-- SCOPE, Which name it was: which name it was
 unfoldable pub names : List Bool
 names =
     -- the first and the last but one of the 62, letter case ignored
@@ -74,10 +74,10 @@ names =
     ∷ blockRow (bytes "<pre/>") (0 ∷ []) (foundBlock (found 7 255 6 false 6))
     ∷ []
 
--- 02, Ask 2: where the closer stands
+-- SCOPE, Where the closer stands
 unfoldable pub closers : List Bool
 closers =
-    -- it may share bytes with the opening, as 01 lets these close on their own line
+    -- it may share bytes with the opening, as these may close on their own line
     blockRow (bytes "<!-->") (0 ∷ []) (foundBlock (found 2 255 5 true 2))
     ∷ blockRow (bytes "<!--->") (0 ∷ []) (foundBlock (found 2 255 6 true 3))
     ∷ blockRow (bytes "  <?>") (0 ∷ []) (foundBlock (found 3 255 5 true 3))
@@ -118,7 +118,7 @@ outputs =
     ∷ sameBytes (written 7 (bytes "ac") (bytes "xyz")) (bytes "xyz")
     ∷ []
 
--- 02, Ask 4: two answers of an entry that writes are the same
+-- SCOPE, GitHub's tag filter: two answers of an entry that writes are the same
 abbrev pub sameWrote : Wrote → Wrote → Bool
 sameWrote (wrote n) (wrote m) = eqb n m
 sameWrote (wrote n) (refusedWrite k) = false
@@ -153,7 +153,7 @@ filters =
     ∷ sameWrote (filter crate (bytes "a<xmp>") (3 ∷ []) 9) (wrote 9)
     ∷ []
 
--- 02, Ask 5: by the standard, where each of the eight changes makes the readings part
+-- SCOPE, The book's own reading: by the standard, where each of the eight changes makes the readings part
 abbrev pub standardBlock : List ℕ → ℕ → BlockAnswer → Bool
 standardBlock text flag a = sameBlock (blockScan standard text (flag ∷ []) 0) a
 
@@ -184,7 +184,7 @@ standards =
     ∷ sameAnswer (withhold standard (bytes "a<b c=d/e>") (0 ∷ []) 1) (shows 1 1)
     ∷ []
 
--- 02, Ask 6: `<` behind an odd run of backslashes is text, in both readings
+-- SCOPE, Backslash before a tag: `<` behind an odd run of backslashes is text, in both readings
 abbrev pub shownRow : Rules → List ℕ → List ℕ → List ℕ → Bool
 shownRow ρ text flags output = sameBytes (shown ρ text flags) output
 

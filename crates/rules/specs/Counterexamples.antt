@@ -1,4 +1,4 @@
--- The premises of demand 3 are needed: for each byte that is not private, two bulletins that differ in it and do not show alike; and lines and a body that run
+-- The premises of privacy are needed: for each byte that is not private, two bulletins that differ in it and do not show alike; and lines and a body that run
 -- one does not withhold. So is it that the numbers of a record fit their fields, and all of the room that suffices for a trace. Each table is proved by one
 -- computed fact.
 use Rattle.std.specs.Prelude.{ℕ, suc, ◌+◌, ◌*◌, ◌≡◌, refl, Bool, true, ◌&&◌, ◌||◌, not, List, [], ◌∷◌, ◌++◌, eqb, length}
@@ -87,7 +87,7 @@ pub enclosing-needed : (all (unheld crate) (bare ∷ loose) && (all (unheld stan
 unfolding computing loose
 enclosing-needed = refl
 
--- 02, Ask 6: a body whose opening follows an odd run of backslashes, and lies in no other piece, is shown; all other premises are met
+-- SCOPE, Backslash before a tag: a body whose opening follows an odd run of backslashes, and lies in no other piece, is shown; all other premises are met
 abbrev pub escaped : Row
 escaped = body 0 (bytes "a \\") comment (bytes "x") (bytes "y") []
 
@@ -103,7 +103,7 @@ pub count-tells : (sameShown crate counted && not (sameCount crate counted)) ≡
 unfolding computing
 count-tells = refl
 
--- ---- demand 2: in fields of two bytes a stop of 65,536, and an index, is read as another number
+-- ---- the right answer: in fields of two bytes a stop of 65,536, and an index, is read as another number
 pub stop-cut : recordAt 2 (recordBytes 2 (lastRecord 13 65536 0)) ≡ lastRecord 13 0 0
 unfolding computing
 stop-cut = refl

@@ -1,4 +1,4 @@
--- GitHub's tag filter, 02, Ask 4: the Disallowed Raw HTML extension of the GitHub Flavored Markdown Spec (6.11), over the pieces that withholding takes.
+-- SCOPE, GitHub's tag filter: the Disallowed Raw HTML extension of the GitHub Flavored Markdown Spec (6.11), over the pieces that withholding takes.
 use Rattle.std.specs.Prelude.{ℕ, suc, Bool, false, ◌&&◌, ◌||◌, List, [], ◌∷◌, ◌++◌, eqb, drop}
 use Rattle.lexical.specs.Text.{bytes, first}
 use Rattle.lexical.specs.Byte.{isWhitespace}

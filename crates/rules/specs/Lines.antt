@@ -1,4 +1,4 @@
--- The lines of a bulletin with their flags, 01, What is read and given.
+-- The lines of a bulletin with their flags, SCOPE, What is read and given.
 use Rattle.std.specs.Prelude.{ℕ, Bool, true, false, ◌||◌, List, [], ◌∷◌, eqb}
 use Rattle.lexical.specs.Text.{byte}
 use Rattle.rules.specs.Search.{choose}

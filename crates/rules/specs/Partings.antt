@@ -1,4 +1,4 @@
--- Where the reading of the Rust and the standard's part: the places that 02, Ask 5, lists are complete.
+-- Where the reading of the Rust and the standard's part: the places that are listed (SCOPE, The book's own reading) are complete.
 use Rattle.std.specs.Prelude.{ℕ, ◌≡◌, Bool, true, false, ◌&&◌, ◌||◌, not, List, eqb, drop}
 use Rattle.lexical.specs.Text.{bytes}
 use Rattle.rules.specs.Reading.{Change, F1, F2, F3, F4, F5, F6, T1, T2, crate, standard}
@@ -12,7 +12,7 @@ use Rattle.rules.specs.declared.Rules.{Rules}
 abbrev pub Parts : {A : Type 0} → (Rules → A) → Type 0
 Parts scan = ¬ (scan crate ≡ scan standard)
 
--- 01: a change applies to a scan
+-- SCOPE: a change applies to a scan
 abbrev pub Applies : {A : Type 0} → (Rules → A) → Change → Type 0
 Applies scan c = ¬ (Spares scan c)
 

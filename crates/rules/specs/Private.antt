@@ -1,4 +1,4 @@
--- Private pieces and the statement of demand 3, 01, Private pieces.
+-- Private pieces and the statement of privacy (SCOPE, Private pieces).
 use Rattle.std.specs.Prelude.{ℕ, ◌≡◌, Bool, true, false, ◌&&◌, ◌||◌, not, List, [], ◌∷◌, ◌++◌, eqb, leb, ltb, length}
 use Rattle.lexical.specs.Text.{byte, bytes}
 use Rattle.lexical.specs.Byte.{isLetter, isQuote, isLineEndingByte}
@@ -89,7 +89,7 @@ abbrev pub WithheldLines : Rules → List ℕ → {one two : List ℕ} → Lines
 WithheldLines ρ flags {one} d =
     any (encloses (length (d.before ++ (byte "\n" ∷ []))) (length ((d.before ++ (byte "\n" ∷ [])) ++ linesText d.lines₁))) (pieces ρ one flags) ≡ true
 
--- ---- demand 3
+-- ---- privacy
 -- one private piece that run one withholds
 pub data Swap (ρ : Rules) (flags one two : List ℕ) : Type 0 where
   in-line : (d : InlineSwap one two) → WithheldBody ρ flags d → Swap ρ flags one two

@@ -1,4 +1,4 @@
--- What is claimed of a scan's trace, 02, Ask 7: its fields hold every number, it reads back as its records, and so much room suffices for it.
+-- What is claimed of a scan's trace, SCOPE, Long bulletins: its fields hold every number, it reads back as its records, and so much room suffices for it.
 use Rattle.std.specs.Prelude.{ℕ, ◌+◌, ◌*◌, ◌^◌, ◌≡◌, ◌<◌, ◌≤◌, List, length, get_or, All}
 use Rattle.rules.specs.Reading.{crate}
 use Rattle.rules.specs.Scan.{inlineScan, blockScan}

@@ -1,4 +1,4 @@
--- Readings: which of the eight changes of 01, Reading rules, are made.
+-- Readings: which of the eight changes (SCOPE, Reading rules) are made.
 use Rattle.std.specs.Prelude.{Bool, true, false}
 use Rattle.rules.specs.declared.Rules.{Rules}
 

@@ -1,10 +1,12 @@
--- Refusals, 01, Where each refusal is met: for each entry its checks in the order of the table.
-use Rattle.std.specs.Prelude.{ℕ, Bool, ◌&&◌, not, List, [], ◌∷◌, eqb, leb, ltb, length, drop}
+-- Refusals, SCOPE, Where each refusal is met: for each entry its checks in the order of the table.
+use Rattle.std.specs.Prelude.{ℕ, Bool, ◌&&◌, not, List, [], ◌∷◌, Result, Ok, Err, eqb, leb, ltb, length, drop}
 use Rattle.lexical.specs.Text.{first, limit}
 use Rattle.lexical.specs.Byte.{isSpaceOrTab, isLineEndingByte}
 use Rattle.lexical.specs.Line.{endsLine, lines, isLineStart}
 use Rattle.lexical.specs.Name.{all}
 use Rattle.rules.specs.Search.{choose, somewhere, past}
+use Rattle.rules.specs.declared.refusal.Refusal.{Refusal}
+use Rattle.rules.specs.declared.refusal.Refusal.TheVariants.{TooLong, WrongCount, WrongFlag, WrongIndex, WrongCarry, BlankLine, NoRoom, WrongKind, CutOff, NotEnded, NotNarrow}
 
 -- a check: where the test holds, the number is given
 pub data Check : Type 0 where
@@ -62,3 +64,23 @@ bulletinRefusal text flags = refusal (tooLong text ∷ wrongCount text flags ∷
 -- an entry that writes: the refusal of what it reads, then 7
 unfoldable pub outputRefusal : ℕ → ℕ → List ℕ → ℕ
 outputRefusal reads room output = refusal (check (not (eqb reads 0)) reads ∷ tooShort room output ∷ [])
+
+-- ---- the code's refusals
+-- the table's number of each
+abbrev pub refusalNumber : Refusal → ℕ
+refusalNumber TooLong = 1
+refusalNumber WrongCount = 2
+refusalNumber WrongFlag = 3
+refusalNumber WrongIndex = 4
+refusalNumber WrongCarry = 5
+refusalNumber BlankLine = 6
+refusalNumber NoRoom = 7
+refusalNumber WrongKind = 8
+refusalNumber CutOff = 9
+refusalNumber NotEnded = 10
+refusalNumber NotNarrow = 11
+
+-- what an answer is refused by, or 0
+abbrev pub refusalOf : {A : Type 0} → Result A Refusal → ℕ
+refusalOf (Ok answer) = 0
+refusalOf (Err r) = refusalNumber r

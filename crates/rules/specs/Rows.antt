@@ -1,4 +1,4 @@
--- The rows that 01 marks (P), each a test, proved together by one computed fact.
+-- The rows that SCOPE marks (P), each a test, proved together by one computed fact.
 use Rattle.std.specs.Prelude.{ℕ, ◌≡◌, refl, Bool, true, false, ◌&&◌, not, List, [], ◌∷◌, ◌++◌, eqb}
 use Rattle.lexical.specs.Text.{bytes}
 use Rattle.lexical.specs.Name.{all, sameBytes, isBlockName}
@@ -43,7 +43,7 @@ inlineRow text k a = sameInline (inlineScan crate text 0 k) a
 abbrev pub blockRow : List ℕ → List ℕ → BlockAnswer → Bool
 blockRow text flags a = sameBlock (blockScan crate text flags 0) a
 
--- 01, The added screen
+-- SCOPE, The added screen
 abbrev pub bulletin : List ℕ
 bulletin = bytes "door <!-- x -->9\n<div>\nold\n\nok"
 
@@ -80,7 +80,7 @@ rows =
     ∷ 13 ∷ 3 ∷ 0 ∷ 0 ∷ 0 ∷ 0 ∷ []) ∷
     []
 
--- 01, Slips a porter makes, and the indentation of a block
+-- SCOPE, Slips a porter makes, and the indentation of a block
 unfoldable pub slips : List Bool
 slips =
     -- clearing the carry: `<![CDATA[q]]>` is not found with carry 2

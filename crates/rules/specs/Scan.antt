@@ -1,4 +1,4 @@
--- The two scans and their answers, 01, What is read and given.
+-- The two scans and their answers, SCOPE, What is read and given.
 use Rattle.std.specs.Prelude.{ℕ, ◌-◌, Bool, List, [], ◌∷◌, eqb, length, take, drop}
 use Rattle.lexical.specs.Line.{lineEndings}
 use Rattle.rules.specs.Search.{choose}

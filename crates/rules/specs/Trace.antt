@@ -1,4 +1,4 @@
--- Traces of both scans and the reading of a trace, 01, Traces. The events of a scan are a function of the text, the start and the answer: the bytes taken are
+-- Traces of both scans and the reading of a trace, SCOPE, Traces. The events of a scan are a function of the text, the start and the answer: the bytes taken are
 -- cut into lines, and the point of an event is that of its index. A trace is the bytes of the events' records and of a last one, each number in it a field of so
 -- many bytes.
 use Rattle.std.specs.Prelude.{ℕ, zero, suc, ◌+◌, ◌-◌, ◌*◌, ◌/◌, ◌%◌, Bool, false, ◌&&◌, ◌||◌, not, List, [], ◌∷◌, ◌++◌, map, eqb, leb, ltb, length, take, drop, get_or}
@@ -128,11 +128,11 @@ blockRecords text start noBlock = lastRecord 14 start 0 ∷ []
 blockRecords text start (refusedBlock n) = []
 
 -- ---- bytes
--- line, column, index and stop have four bytes each, low first: 02, Ask 7
+-- line, column, index and stop have four bytes each, low first: SCOPE, Long bulletins
 abbrev pub wide : ℕ
 wide = 4
 
--- in old traces they have two: 02, Ask 8
+-- in old traces they have two: SCOPE, Old traces across and back
 abbrev pub narrow : ℕ
 narrow = 2
 

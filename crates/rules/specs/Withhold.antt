@@ -1,4 +1,4 @@
--- Withholding, 01, Withhold: the pieces of a bulletin, and what is shown of it.
+-- SCOPE, Withhold: the pieces of a bulletin, and what is shown of it.
 use Rattle.std.specs.Prelude.{ℕ, zero, suc, ◌+◌, ◌-◌, Bool, true, false, ◌&&◌, ◌||◌, not, List, [], ◌∷◌, ◌++◌, eqb, leb, ltb, length, drop}
 use Rattle.lexical.specs.Text.{byte}
 use Rattle.lexical.specs.Line.{isBlank}
@@ -60,7 +60,7 @@ abbrev pub byRead : Read → (Unit {0} → List Piece) → (List ℕ → List Pi
 byRead (takes s k) none found = found s
 byRead (lacks k) none found = none tt
 
--- 02, Ask 6: whether an odd run of backslashes stands behind x; odd: whether one stands before it
+-- SCOPE, Backslash before a tag: whether an odd run of backslashes stands behind x; odd: whether one stands before it
 abbrev pub oddBehind : Bool → ℕ → Bool
 oddBehind odd x = eqb x (byte "\\") && not odd
 

@@ -1,4 +1,4 @@
--- Demands 2 and 3 are not empty: readings that leave one change out, places where each change applies and where none does, traces that read back, and private
+-- The right answer and privacy are no empty statements: readings that leave one change out, places where each change applies and where none does, traces that read back, and private
 -- pieces that exist.
 -- Each table is proved by one computed fact.
 use Rattle.std.specs.Prelude.{ℕ, zero, suc, ◌+◌, ◌≡◌, refl, Bool, true, false, ◌&&◌, ◌||◌, not, List, [], ◌∷◌, ◌++◌, map, eqb, length, replicate}
@@ -18,7 +18,7 @@ use Rattle.rules.specs.Rows.{sameBit, sameInline, sameBlock}
 use Rattle.rules.specs.Computing.{computing}
 use Rattle.rules.specs.declared.Rules.{Rules}
 
--- ---- demand 2: the eight changes
+-- ---- the right answer: the eight changes
 abbrev pub changes : List Change
 changes = F1 ∷ F2 ∷ F3 ∷ F4 ∷ F5 ∷ F6 ∷ T1 ∷ T2 ∷ []
 
@@ -120,7 +120,7 @@ pub each-applies : (c : Change) → appliesAlone c (place c) ≡ true
 unfolding computing
 each-applies = eight (λ c. appliesAlone c (place c) ≡ true) refl refl refl refl refl refl refl refl
 
--- 02, Ask 2: the closer is part of the answer, so F1 applies, and alone, also where nothing but the closer differs
+-- SCOPE, Where the closer stands: the closer is part of the answer, so F1 applies, and alone, also where nothing but the closer differs
 abbrev pub closerPlace : Place
 closerPlace = inBulletin (bytes "<![CDATA[]]]>]]>") (0 ∷ [])
 
@@ -128,7 +128,7 @@ pub closer-applies : appliesAlone F1 closerPlace ≡ true
 unfolding computing
 closer-applies = refl
 
--- 02, Ask 5: a change is listed for a place
+-- SCOPE, The book's own reading: a change is listed for a place
 abbrev pub isListed : Place → Change → Bool
 isListed (inText text k) c = inlineListed text (inlineScan crate text 0 k) (inlineScan standard text 0 k) c
 isListed (inBulletin text flags) c = blockListed (blockScan crate text flags 0) (blockScan standard text flags 0) c
@@ -158,21 +158,21 @@ pub none-there : all noneApplies calm ≡ true
 unfolding computing
 none-there = refl
 
--- and as demand 2 has it: every change is spared
+-- and as the statement has it: every change is spared
 pub spares-tag : (c : Change) → Spares (λ ρ. inlineScan ρ (bytes "<b>") 0 0) c
 unfolding computing
 spares-tag = eight (Spares (λ ρ. inlineScan ρ (bytes "<b>") 0 0)) refl refl refl refl refl refl refl refl
 
--- what demand 2 says is not so of every answer: two changes can stand in for each other, so that neither applies
+-- what the statement on the changes says is not so of every answer: two changes can stand in for each other, so that neither applies
 pub not-of-all : Unchanged (λ ρ. ρ.f1 || ρ.f2) → true ≡ false
 not-of-all same = same (eight (Spares (λ ρ. ρ.f1 || ρ.f2)) refl refl refl refl refl refl refl refl)
 
--- ---- demand 2: traces
+-- ---- the right answer: traces
 -- what a trace says, read by the first numbers
 abbrev pub readBy : List ℕ → List ℕ → List Record
 readBy numbers trace = map (λ n. readTrace wide n trace) numbers
 
--- 01's trace of `<b>`, and one of a block whose spaces have a pair of their own; behind the last record there is none
+-- the trace of `<b>`, and one of a block whose spaces have a pair of their own; behind the last record there is none
 pub tag-read : readBy (0 ∷ 1 ∷ 2 ∷ 3 ∷ 4 ∷ 5 ∷ []) (inlineTrace (bytes "<b>") 0 (inlineScan crate (bytes "<b>") 0 0))
     ≡ eventRecord 7 1 1 0 0 ∷ eventRecord 9 1 1 0 0 ∷ eventRecord 10 1 4 3 0 ∷ eventRecord 8 1 4 3 0 ∷ lastRecord 13 3 0 ∷ refusedRecord 9 ∷ []
 unfolding computing
@@ -184,17 +184,17 @@ pub block-read : readBy (0 ∷ 2 ∷ 3 ∷ 5 ∷ 6 ∷ 7 ∷ 9 ∷ 10 ∷ 11 ∷
 unfolding computing
 block-read = refl
 
--- ---- demand 3: private pieces
+-- ---- privacy: private pieces
 -- how many bytes below n are private
 abbrev pub privates : ℕ → ℕ
 privates zero = 0
 privates (suc n) = pick (isPrivate n) 1 0 + privates n
 
--- 01: all bytes but nine
+-- all bytes but nine
 pub all-but-nine : privates 256 ≡ 247
 all-but-nine = refl
 
--- 01: the bytes between `<!--` and `-->`, `<?` and `?>`, `<!` with a letter and `>`, or `<![CDATA[` and `]]>`
+-- SCOPE: the bytes between `<!--` and `-->`, `<?` and `?>`, `<!` with a letter and `>`, or `<![CDATA[` and `]]>`
 unfoldable pub forms : List Bool
 forms =
     sameBytes (around comment (bytes "x")) (bytes "<!--x-->")
@@ -222,7 +222,7 @@ lines-swap =
     (record { before = bytes "<!--"; lines₁ = bytes "a" ∷ [] ∷ []; lines₂ = bytes "bc d" ∷ bytes "e" ∷ []; after = bytes "-->"; same-number = refl; private₁ = refl; private₂ = refl; one-is = refl; two-is = refl })
     refl
 
--- what demand 3 then gives: whatever private bytes a remark has, the same is shown
+-- what privacy then gives: whatever private bytes a remark has, the same is shown
 abbrev pub remark : List ℕ → List ℕ
 remark s = bytes "a " ++ (around comment s ++ bytes " b")
 
@@ -280,7 +280,7 @@ asSaid ρ r = any (λ p. enfolds r p && eqb (kind p.which) (said r)) (pieces ρ 
 abbrev pub accepted : Row → Bool
 accepted r = eqb (bulletinRefusal (one r) (flags r)) 0 && eqb (bulletinRefusal (two r) (flags r)) 0
 
--- demand 3's premises
+-- the premises of privacy
 abbrev pub meets : Rules → Row → Bool
 meets ρ r = consists isPrivate r && withheld ρ r
 

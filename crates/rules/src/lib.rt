@@ -1,11 +1,13 @@
 // What the code shares with the definitions, which are in specs/.
 #![tactic(auto)]
 
+pub mod refusal;
+
 ghost use Rattle.std.specs.Prelude.{◌≡◌};
 ghost use Rattle.rules.specs.Reading.{crate as ofCrate, standard};
 
 // Which of the eight changes to CommonMark 0.31.2 a reading makes. All on is the reading of the Rust crate; all off is the standard to the letter.
-#[derive(Clone, Copy)]
+#[derive(Clone, Copy, Debug, PartialEq, Eq)]
 pub struct Rules {
     // Kind 5: the closer is `>` behind brackets `]` that are even in number, two or more; all that stand there in a row are counted.
     pub f1: bool,
@@ -55,14 +57,4 @@ pub fn standard_rules() -> Rules
         t1: false,
         t2: false,
     }
-}
-
-// 01, Where each refusal is met: the output buffer is shorter than the output needs.
-pub const NO_ROOM: u8 = 7;
-
-// The length of what an entry wrote, or a refusal.
-#[derive(Clone, Copy)]
-pub enum Output {
-    Written { length: usize },
-    Refused { refusal: u8 },
 }

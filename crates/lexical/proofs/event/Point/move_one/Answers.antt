@@ -1,23 +1,23 @@
-use Rattle.lexical.specs.Point.{moved}
 use Rattle.std.proofs.Common.{◌∙◌, eq-eqb, ne_eqb}
+use Rattle.lexical.specs.Point.{moved}
 use Rattle.lexical.proofs.event.Point.move_one.Goals as goal
 
-pub returns-then-byte-eq10 : goal.returns-then-byte-eq10
+pub returns-in-Some-Normal-eq10 : goal.returns-in-Some-Normal-eq10
 unfolding moved
-returns-then-byte-eq10 c = c.next_line.ensures ∙ simp (← c.byte_action.ensures, c.in-Normal.is, eq-eqb _ _ c.if-byte-eq10.true)
+returns-in-Some-Normal-eq10 c = let n = c.in-Some-Normal-eq10 in c.next_line.ensures ∙ simp (← n.ensures, n.field-0-is, eq-eqb _ _ n.field-0-0-test)
 
-pub returns-else-byte-eq10 : goal.returns-else-byte-eq10
+pub returns-in-Some-Normal : goal.returns-in-Some-Normal
 unfolding moved
-returns-else-byte-eq10 c = c.next_byte.ensures ∙ simp (← c.byte_action.ensures, c.in-Normal.is, ne_eqb _ _ c.if-byte-eq10.false)
+returns-in-Some-Normal c = let n = c.in-Some-Normal in c.next_byte.ensures ∙ simp (← n.ensures, n.field-0-is, ne_eqb _ _ n.field-0-0-test.1)
 
-pub returns-in-Ignore : goal.returns-in-Ignore
+pub returns-in-Some-Ignore : goal.returns-in-Some-Ignore
 unfolding moved
-returns-in-Ignore c = c.skip_byte.ensures ∙ simp (← c.byte_action.ensures, c.in-Ignore.is)
+returns-in-Some-Ignore c = let i = c.in-Some-Ignore in c.skip_byte.ensures ∙ simp (← i.ensures, i.field-0-is)
 
-pub returns-in-Insert : goal.returns-in-Insert
+pub returns-in-Some-Insert : goal.returns-in-Some-Insert
 unfolding moved
-returns-in-Insert c = c.next_reading.ensures ∙ simp (← c.byte_action.ensures, c.in-Insert.is)
+returns-in-Some-Insert c = let i = c.in-Some-Insert in c.next_reading.ensures ∙ simp (← i.ensures, i.field-0-is)
 
-pub returns-in-End : goal.returns-in-End
+pub returns-in-None : goal.returns-in-None
 unfolding moved
-returns-in-End c = simp (← c.byte_action.ensures, c.in-End.is)
+returns-in-None c = simp (← c.byte_action.ensures, c.in-None.is)
