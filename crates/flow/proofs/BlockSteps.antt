@@ -1,24 +1,15 @@
 -- The lines of a block one by one: what the rules give, by the next line.
-use mathlib.Core.Path.{◌≡◌, refl, sym, ◌∙◌, ap}
-use mathlib.Core.Bool.{Bool, true, false, ◌&&◌}
-use mathlib.Core.List.{List, [], ◌∷◌}
-use Prim.Native.Nat.{ℕ, suc, ◌+◌, ◌-◌, ◌<◌, ◌≤◌}
-use native.Mathlib.Omega.{arith}
-use native.Mathlib.Numerals.{add-one}
-use borrow.Author.Tests.{ltb-false}
-use lib.Dec.{eqb, ltb}
-use lib.ListN.{length, get_or, take, drop}
+use Rattle.std.proofs.Common.{◌≡◌, refl, sym, ◌∙◌, ap, true, false, List, [], ◌∷◌, ℕ, suc, ◌+◌, ◌-◌, ◌<◌, ◌≤◌, arith, add-one, ltb-false, eqb, ltb, length, get_or, take, drop}
+use Rattle.std.proofs.lemmas.List.{drop-drop, drop_all}
 use Rattle.lexical.specs.Text.{pick}
 use Rattle.lexical.specs.Line.{lineEnding, lineLength}
-use Rattle.lexical.specs.Name.{all}
 use Rattle.lexical.proofs.Cases.{split}
-use Rattle.lexical.proofs.Suffix.{suffix-in, suffix-out, suffix-next}
 use Rattle.lexical.proofs.Ending.{ending-out}
 use Rattle.rules.specs.Lines.{Line, line, flagged, linesOf}
 use Rattle.rules.specs.Block.{endsBefore, beforeCloser, kindOf, placeOf, extentOf}
 use Rattle.rules.specs.Scan.{found, BlockAnswer, foundBlock, noBlock, blockFound, blockOf}
 use Rattle.rules.specs.declared.Rules.{Rules}
-use Rattle.rules.proofs.Cut.{behind, behind-none, content-length, lead-length, to-within, lineFrom, lineTo}
+use Rattle.rules.proofs.Cut.{behind, behind-none, content-length, lead-length, lineFrom, lineTo}
 use Rattle.rules.proofs.LineLaws.{contentFrom, first-line, next-lines}
 use Rattle.rules.proofs.BlockLaws.{goingOn, closes-at, closes-not, none-left, ended, closed-here, one-on, first-closed, first-goes}
 use Rattle.flow.specs.Answer.{kindNumber}
@@ -30,17 +21,7 @@ use Rattle.flow.specs.BlockMachine.{continuationStartOf}
 -- the flags from the next line on
 pub next-flags : (s : List ℕ) (n m : ℕ) → m ≡ pick (ltb n (length s)) (suc n) n → drop m s ≡ drop 1 (drop n s)
 next-flags s n m e =
-    rw e (split (ltb n (length s)) (λ h. rw h (rw (suffix-next s n, add-one))) (λ h. let o = suffix-out s n (ltb-false n (length s) h) in rw (h, o)))
-
--- all flags from an index on
-module _ (f : ℕ → Bool) (s : List ℕ) (i : ℕ) where
-  pub all-in : (t : Bool) → i < length s → f (get_or s i 0) ≡ t → all f (drop i s) ≡ (t && all f (drop (i + 1) s))
-  unfolding all
-  all-in t h e = rw (suffix-in s i h, e)
-
-  pub all-out : length s ≤ i → all f (drop i s) ≡ true
-  unfolding all
-  all-out h = rw (suffix-out s i h)
+    rw e (split (ltb n (length s)) (λ h. rw h (rw (drop-drop 1 n s, add-one))) (λ h. let o = drop_all n s (ltb-false n (length s) h) in rw (h, o)))
 
 -- ---- the next line of an open block, at an index of a text
 module _ (ρ : Rules) (k name : ℕ) (s flags : List ℕ) (i n : ℕ) where
@@ -104,12 +85,6 @@ module _ (ρ : Rules) (k name : ℕ) (s flags : List ℕ) (i n : ℕ) where
 
   pub same-from : (from : ℕ) → from ≡ lineFrom s i → from ≡ i → continuationStartOf ρ k name s flags i n ≡ foundBlock (found k name i false i)
   same-from from a e = no-line (omega (arith, a, e))
-
--- the next line ends within the text
-pub next-within : (s : List ℕ) (i from : ℕ) (content : List ℕ) → i < length s → from ≡ lineFrom s i → content ≡ contentFrom s from → from + length content ≤ length s
-next-within s i from content h a d =
-    let m : length content ≡ length (contentFrom s (lineFrom s i)) = ap length (d ∙ ap (contentFrom s) a) in
-    omega (arith, m, a, content-length (drop (lineFrom s i) s), to-within s i (omega arith))
 
 -- the content of a line, by where it ends
 pub content-of : (s : List ℕ) (i to : ℕ) (content : List ℕ) → to ≡ i + lineLength (drop i s) → content ≡ take (to - i) (drop i s) → content ≡ contentFrom s i

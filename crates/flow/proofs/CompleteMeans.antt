@@ -1,17 +1,12 @@
 -- The run of the complete states says whether the rest of a line completes a tag and fills the line. A state that stays at a class of bytes passes the class;
 -- what follows a tag name or an attribute is shown by induction on the number of attributes that the grammar allows, and a value by the number of values.
-use mathlib.Core.Path.{◌≡◌, refl, sym, ◌∙◌, ap}
-use mathlib.Core.Bool.{Bool, true, false, ◌||◌, not}
-use mathlib.Core.List.{List, [], ◌∷◌}
-use Prim.Native.Nat.{ℕ, zero, suc, ◌<◌}
-use native.Mathlib.Omega.{arith}
-use lib.Dec.{eqb}
-use lib.ListN.{drop, length}
-use borrow.Author.Tests.{eqb-true, not-false, not-true}
+use Rattle.std.proofs.Common.{◌≡◌, refl, sym, ◌∙◌, ap, Bool, true, false, ◌||◌, not, List, [], ◌∷◌, ℕ, zero, suc, ◌<◌, arith, eqb, drop, length, eqb-true}
+use Rattle.std.proofs.lemmas.Bool.{or_parts}
+use borrow.Author.Tests.{not-false, not-true}
 use Rattle.lexical.specs.Text.{byte, bytes, pick, first, run}
 use Rattle.lexical.specs.Byte.{isAttributeNameByte, isSpaceOrTab, isLineEndingByte, isWhitespace, isQuote, isValueExcluded, isTagBreak, isNameStart, isValueEnd}
 use Rattle.lexical.specs.Line.{isBlank}
-use Rattle.lexical.proofs.Cases.{split, or-left, or-right}
+use Rattle.lexical.proofs.Cases.{split}
 use Rattle.lexical.proofs.Classes.{name-start-no, break-start-no, end-start-no}
 use Rattle.rules.specs.Search.{choose, begins, past, Left, nothing, exactly}
 use Rattle.rules.specs.Tag.{Grammar, blockTags, tagEnd, pastQuote, specification, isValueByte, value, values, attribute, attributes}
@@ -113,8 +108,8 @@ module _ (ρ : Rules) where
   after-at x start =
       split (isTagBreak x) (λ t. rw t)
       (λ t.
-      let o = or-right (isWhitespace x) (eqb x (byte "/") || eqb x (byte ">")) t in
-      rw (t, before-at x (or-left (isWhitespace x) (eqb x (byte "/") || eqb x (byte ">")) t), or-left (eqb x (byte "/")) (eqb x (byte ">")) o, start, or-right (eqb x (byte "/")) (eqb x (byte ">")) o))
+      let o = (or_parts (isWhitespace x) (eqb x (byte "/") || eqb x (byte ">")) t).1 in
+      rw (t, before-at x (or_parts (isWhitespace x) (eqb x (byte "/") || eqb x (byte ">")) t).0, (or_parts (eqb x (byte "/")) (eqb x (byte ">")) o).0, start, (or_parts (eqb x (byte "/")) (eqb x (byte ">")) o).1))
 
   after-between : (x : ℕ) (xs : List ℕ) → isNameStart ρ.f2 x ≡ false
       → runOf ρ CompleteAttributeValueQuotedAfter (x ∷ xs) ≡ runOf ρ CompleteAttributeNameBefore (past isWhitespace (x ∷ xs))
@@ -239,8 +234,8 @@ module _ (ρ : Rules) where
   no-break : (x : ℕ) (xs : List ℕ) → isTagBreak x ≡ false → runOf ρ CompleteAttributeValueQuotedAfter (x ∷ xs) ≡ fillsLine (tagEnd (x ∷ xs))
   unfolding runOf valueQuotedAfterOf tagEnd
   no-break x xs t =
-      let o = or-right (isWhitespace x) (eqb x (byte "/") || eqb x (byte ">")) t in
-      simp (t, or-left (isWhitespace x) (eqb x (byte "/") || eqb x (byte ">")) t, or-left (eqb x (byte "/")) (eqb x (byte ">")) o, or-right (eqb x (byte "/")) (eqb x (byte ">")) o)
+      let o = (or_parts (isWhitespace x) (eqb x (byte "/") || eqb x (byte ">")) t).1 in
+      simp (t, (or_parts (isWhitespace x) (eqb x (byte "/") || eqb x (byte ">")) t).0, (or_parts (eqb x (byte "/")) (eqb x (byte ">")) o).0, (or_parts (eqb x (byte "/")) (eqb x (byte ">")) o).1)
 
   after-is : (n : ℕ) → After n
   after-is zero s l = absurd (omega arith)
@@ -251,7 +246,7 @@ module _ (ρ : Rules) where
       let b = run-alike CompleteAttributeValueQuotedAfter CompleteAttributeNameBefore x xs (at-break x t) ∙ between-is n (after-is n) (x ∷ xs) l in
       split (isWhitespace x) (λ sp. b ∙ ap fillsLine (sym (attributes-spaced n x xs sp)))
       (λ sp. rw (attributes-end n x xs sp) (rw (past-none isWhitespace x xs sp, break-start-no ρ.f2 x t) at b)))
-      (λ t. rw (attributes-end n x xs (or-left (isWhitespace x) (eqb x (byte "/") || eqb x (byte ">")) t)) (no-break x xs t))
+      (λ t. rw (attributes-end n x xs (or_parts (isWhitespace x) (eqb x (byte "/") || eqb x (byte ">")) t).0) (no-break x xs t))
 
   -- behind an open tag's name, and behind a closing tag's
   pub open-is : (n : ℕ) (s : List ℕ) → length s < n → runOf ρ CompleteAttributeValueQuotedAfter s ≡ fillsLine (attributes g n s)

@@ -1,15 +1,9 @@
 -- The run over a line finds the closer where the rules say that it begins, and meets one exactly where the line contains it. A closer `c c >` is found by three
 -- states, by how many of its bytes were seen just before; with F1 the states of CDATA tell an odd run of `]` from an even one.
-use mathlib.Core.Path.{◌≡◌, refl, sym, ◌∙◌, ap}
-use mathlib.Core.Bool.{Bool, true, false, ◌&&◌, not}
-use mathlib.Core.List.{List, [], ◌∷◌}
-use Prim.Native.Nat.{ℕ, suc, ◌+◌, ◌-◌, ◌%◌, ◌<◌}
-use native.Mathlib.Omega.{arith}
-use lib.Dec.{eqb, ltb}
-use lib.ListN.{length}
-use borrow.Author.Tests.{eqb-true, eq-eqb, ne_eqb, lt-ltb, le-ltb}
+use Rattle.std.proofs.Common.{◌≡◌, refl, sym, ◌∙◌, ap, Bool, true, false, ◌&&◌, not, List, [], ◌∷◌, ℕ, suc, ◌+◌, ◌-◌, ◌%◌, ◌<◌, arith, eqb, ltb, length, eqb-true, eq-eqb, ne_eqb, lt-ltb, le-ltb}
+use Rattle.std.proofs.Math.Bool.{and-false, and-true}
 use Rattle.lexical.specs.Text.{byte, bytes, pick}
-use Rattle.lexical.proofs.Cases.{split, clash, and-yes, and-no}
+use Rattle.lexical.proofs.Cases.{split, clash}
 use Rattle.rules.specs.Search.{choose, begins, before}
 use Rattle.rules.specs.Block.{beforeEven, beforeCloser, closes}
 use Rattle.rules.specs.declared.Rules.{Rules}
@@ -119,7 +113,7 @@ module _ (ρ : Rules) where
   cdata-at : ρ.f1 ≡ false → (i : ℕ) (s : List ℕ) → closedAt ρ Cdata Continuation i s ≡ i + before (begins (bytes "]]>")) s
   unfolding continuationOf cdataInsideOf
   cdata-at f i s =
-      (seen Cdata (byte "]") ContinuationCdataInside refl refl refl (λ x. refl) (λ x. refl) (λ x. cdata-inside false f x ∙ rw (and-yes (eqb x (byte "]")))) refl s).0 i
+      (seen Cdata (byte "]") ContinuationCdataInside refl refl refl (λ x. refl) (λ x. refl) (λ x. cdata-inside false f x ∙ rw (and-true (eqb x (byte "]")))) refl s).0 i
 
   -- ---- F1: a maximal, even, nonempty run of `]` before `>`
   module _ (f : ρ.f1 ≡ true) where
@@ -151,14 +145,14 @@ module _ (ρ : Rules) where
 
     odd-on : (n : ℕ) (s : List ℕ) → eqb (n % 2) 0 ≡ false → beforeEven n (byte "]" ∷ s) ≡ suc (beforeEven (suc n) s)
     unfolding beforeEven
-    odd-on n s o = rw (o, and-no (begins (bytes "]]>") (byte "]" ∷ s)))
+    odd-on n s o = rw (o, and-false (begins (bytes "]]>") (byte "]" ∷ s)))
 
     two-on : (n : ℕ) (xs : List ℕ) → n % 2 ≡ 0 → beforeEven n (byte "]" ∷ byte "]" ∷ byte "]" ∷ xs) ≡ suc (suc (beforeEven (suc (suc n)) (byte "]" ∷ xs)))
     unfolding beforeEven
     two-on n xs e = let o : eqb (suc n % 2) 0 ≡ false = ne_eqb (suc n % 2) 0 (λ z. omega arith) in ap suc (odd-on (suc n) (byte "]" ∷ xs) o)
 
     inside : (x : ℕ) → declarationInsideOf ρ Cdata x ≡ pick (eqb x (byte ">")) ContinuationClose (continuationOf Cdata x)
-    inside x = cdata-inside true f x ∙ rw (and-no (eqb x (byte "]")))
+    inside x = cdata-inside true f x ∙ rw (and-false (eqb x (byte "]")))
 
     abbrev bracket : ℕ
     bracket = byte "]"

@@ -1,18 +1,13 @@
 -- One turn of the run over a line on the way to its closer.
-use mathlib.Core.Path.{◌≡◌, refl, sym, ap}
-use mathlib.Core.Bool.{true, false}
-use mathlib.Core.List.{List, [], ◌∷◌}
-use Prim.Native.Nat.{ℕ, ◌+◌, ◌-◌, ◌<◌, ◌≤◌}
-use native.Mathlib.Omega.{arith}
-use lib.Dec.{eqb}
-use lib.ListN.{length, get_or, drop}
+use Rattle.std.proofs.Common.{◌≡◌, refl, sym, ap, true, false, List, [], ◌∷◌, ℕ, ◌+◌, ◌-◌, ◌<◌, ◌≤◌, arith, eqb, length, get_or, drop}
+use Rattle.std.proofs.lemmas.List.{drop_all, drop_more}
+use Rattle.std.proofs.lemmas.Bool.{or_parts}
 use borrow.Author.Tests.{not-true}
 use Rattle.lexical.specs.Text.{byte, run}
 use Rattle.lexical.specs.Byte.{isLineEndingByte}
 use Rattle.lexical.specs.Line.{isInner}
-use Rattle.lexical.proofs.Cases.{split, clash, or-left}
+use Rattle.lexical.proofs.Cases.{split, clash}
 use Rattle.lexical.proofs.Run.{behind-from}
-use Rattle.lexical.proofs.Suffix.{suffix-in, suffix-out}
 use Rattle.rules.specs.declared.Rules.{Rules}
 use Rattle.flow.specs.ContinuationMachine.{continuationOf, commentInsideOf, cdataInsideOf, stays, declarationInsideOf, nextOf, isClose, isContinuation, closerStart, closerLength, closedAt, meetsOf}
 use Rattle.flow.specs.declared.html_flow.Kind.{Kind}
@@ -34,22 +29,22 @@ module _ (ρ : Rules) (κ : Kind) (s : ContinuationName) (i x : ℕ) (xs : List 
 module _ (ρ : Rules) (κ : Kind) (line : List ℕ) (s : ContinuationName) (i : ℕ) where
   module _ (r : ContinuationName) (h : i < length line) (e : r ≡ nextOf ρ κ s (get_or line i 0)) where
     pub closer-on : isClose r ≡ false → closedAt ρ κ s i (drop i line) ≡ closedAt ρ κ r (i + 1) (drop (i + 1) line)
-    closer-on c = rw (suffix-in line i h) (on ρ κ s i _ _ r e c)
+    closer-on c = rw (drop_more line i 0 h) (on ρ κ s i _ _ r e c)
 
     pub closer-here : isClose r ≡ true → closedAt ρ κ s i (drop i line) ≡ i + 1 - closerLength κ
-    closer-here c = rw (suffix-in line i h) (here ρ κ s i _ _ r e c)
+    closer-here c = rw (drop_more line i 0 h) (here ρ κ s i _ _ r e c)
 
     pub turn : isClose s ≡ false → meetsOf ρ κ s (drop i line) ≡ meetsOf ρ κ r (drop (i + 1) line)
     unfolding meetsOf
-    turn c = rw (suffix-in line i h, c, e)
+    turn c = rw (drop_more line i 0 h, c, e)
 
   pub closer-out : length line ≤ i → closedAt ρ κ s i (drop i line) ≡ i
   unfolding closedAt
-  closer-out h = rw (suffix-out line i h)
+  closer-out h = rw (drop_all i line h)
 
   pub ended : length line ≤ i → meetsOf ρ κ s (drop i line) ≡ isClose s
   unfolding meetsOf
-  ended h = rw (suffix-out line i h)
+  ended h = rw (drop_all i line h)
 
 pub met : (ρ : Rules) (κ : Kind) (s : ContinuationName) (xs : List ℕ) → isClose s ≡ true → meetsOf ρ κ s xs ≡ true
 unfolding meetsOf
@@ -69,7 +64,7 @@ no-start Complete x e = refl
 
 module _ (ρ : Rules) (κ : Kind) where
   inner-same : (i x : ℕ) (xs : List ℕ) → isInner (closerStart κ) x ≡ true → closedAt ρ κ Continuation i (x ∷ xs) ≡ closedAt ρ κ Continuation (i + 1) xs
-  inner-same i x xs h = on ρ κ Continuation i x xs Continuation (sym (no-start κ x (or-left (eqb x (closerStart κ)) (isLineEndingByte x) (not-true _ h)))) refl
+  inner-same i x xs h = on ρ κ Continuation i x xs Continuation (sym (no-start κ x (or_parts (eqb x (closerStart κ)) (isLineEndingByte x) (not-true _ h)).0)) refl
 
   pub closer-behind : (s : ContinuationName) (mark : ℕ) → isContinuation s ≡ true → mark ≡ closerStart κ → (line : List ℕ) (i j : ℕ)
       → j ≡ i + run (isInner mark) (drop i line) → closedAt ρ κ s i (drop i line) ≡ closedAt ρ κ s j (drop j line)

@@ -1,17 +1,12 @@
 -- The kind of a line by the code's order of tests is the kind of the rules. Of a name that does not begin with a letter no condition holds; behind a name that
 -- does, the start conditions are asked in the same order, and a block name before `/` that is not `/>` is no complete tag either.
-use mathlib.Core.Path.{◌≡◌, refl, sym, ◌∙◌, ap}
-use mathlib.Core.Bool.{Bool, true, false, ◌&&◌, ◌||◌, not}
-use mathlib.Core.List.{List, [], ◌∷◌, ◌++◌}
-use Prim.Native.Nat.{ℕ, suc, ◌<◌, ◌≤◌}
-use native.Mathlib.Omega.{arith}
-use lib.Dec.{eqb}
-use lib.ListN.{length, drop, length-drop}
-use borrow.Author.Tests.{eqb-true}
+use Rattle.std.proofs.Common.{◌≡◌, refl, sym, ◌∙◌, ap, Bool, true, false, ◌&&◌, ◌||◌, not, List, [], ◌∷◌, ◌++◌, ℕ, suc, ◌<◌, ◌≤◌, arith, eqb, length, drop, length-drop, eqb-true}
+use Rattle.std.proofs.lemmas.Bool.{and_parts, or_parts}
+use Rattle.std.proofs.Math.Bool.{and-false, and-true, or-false, and_comm}
 use Rattle.lexical.specs.Text.{byte, bytes, pick, first, run}
 use Rattle.lexical.specs.Byte.{isLetter, isTagNameByte, isSpaceOrTab, isLineEndingByte, isWhitespace, isNameBreak}
 use Rattle.lexical.specs.Name.{isBlockName, isRawName}
-use Rattle.lexical.proofs.Cases.{split, clash, and-left, or-left, or-right, excluded, and-yes, and-no, or-no, letter-byte}
+use Rattle.lexical.proofs.Cases.{split, clash, excluded, letter-byte}
 use Rattle.lexical.proofs.Members.{raw-first, block-first}
 use Rattle.rules.specs.Search.{choose, begins, past, exactly}
 use Rattle.rules.specs.Tag.{blockTags, attributes, openTag, closingTag}
@@ -49,7 +44,7 @@ module _ (ρ : Rules) (f : ℕ) where
 
   no-complete-start : (s : List ℕ) → isLetter (first s) ≡ false → begins (bytes "/") s ≡ false → startsComplete ρ (byte "<" ∷ s) ≡ false
   unfolding startsComplete openTag closingTag
-  no-complete-start s e n = rw (e, n, and-no (ρ.f3 || not (isRawName (nameOf s))))
+  no-complete-start s e n = rw (e, n, and-false (ρ.f3 || not (isRawName (nameOf s))))
 
   no-letter : (s : List ℕ) → isLetter (first s) ≡ false → begins (bytes "/") s ≡ false → kindAt ρ f (byte "<" ∷ s) ≡ early (byte "<" ∷ s)
   unfolding kindAt
@@ -70,10 +65,6 @@ module _ (ρ : Rules) (f : ℕ) where
   other-kind x s a b c e = no-letter (x ∷ s) e (rw b) ∙ rw (a, c)
 
 -- ---- the two orders of tests agree. E: the name ends here; S: `/` follows; G: `/>` does; R, B: a raw and a block name; C: the tag is complete; M: kind 7 may start
-and-turn : (a b : Bool) → (a && b) ≡ (b && a)
-and-turn true b = sym (and-yes b)
-and-turn false b = sym (and-no b)
-
 module _ (E S G R B C M : Bool) (no_both : S ≡ true → E ≡ false) (shut : (E || S) ≡ false → C ≡ false) (need : S ≡ true → G ≡ false → C ≡ false)
     (slash-of : G ≡ true → S ≡ true) where
   abbrev ruled : ℕ
@@ -88,12 +79,12 @@ module _ (E S G R B C M : Bool) (no_both : S ≡ true → E ≡ false) (shut : (
   agree : ruled ≡ coded
   agree =
       split E
-      (λ e. split S (λ s. clash E e (no_both s)) (λ s. rw (e, s, and-yes R, and-yes B, and-turn C M)))
+      (λ e. split S (λ s. clash E e (no_both s)) (λ s. rw (e, s, and-true R, and-true B, and_comm C M)))
       (λ e. split S
       (λ s. split B
-      (λ b. split G (λ g. rw (e, s, b, g, and-no R)) (λ g. rw (e, s, b, g, and-no R, need s g)))
-      (λ b. rw (e, s, b, and-no R, and-turn C M)))
-      (λ s. split G (λ g. clash S (slash-of g) s) (λ g. rw (e, s, g, and-no R, and-no B, shut (rw (e, s))))))
+      (λ b. split G (λ g. rw (e, s, b, g, and-false R)) (λ g. rw (e, s, b, g, and-false R, need s g)))
+      (λ b. rw (e, s, b, and-false R, and_comm C M)))
+      (λ s. split G (λ g. clash S (slash-of g) s) (λ g. rw (e, s, g, and-false R, and-false B, shut (rw (e, s))))))
 
 -- ---- what follows a name
 break-is : (a : List ℕ) → isNameBreak a ≡ (nameEnds a || begins (bytes "/") a)
@@ -110,7 +101,7 @@ break-is (y ∷ ys) = turned (isLineEndingByte y) (isSpaceOrTab y) (eqb y (byte 
     turned false false false false = refl
 
 slash-first : (y : ℕ) (ys : List ℕ) → begins (bytes "/") (y ∷ ys) ≡ true → y ≡ byte "/"
-slash-first y ys h = eqb-true y (byte "/") (and-left (eqb y (byte "/")) true h)
+slash-first y ys h = eqb-true y (byte "/") (and_parts (eqb y (byte "/")) true h).0
 
 no-both-here : (a : List ℕ) → begins (bytes "/") a ≡ true → nameEnds a ≡ false
 no-both-here [] h = clash false h refl
@@ -118,7 +109,7 @@ no-both-here (y ∷ ys) h = rw (slash-first y ys h)
 
 slash-of-here : (a : List ℕ) → begins (bytes "/>") a ≡ true → begins (bytes "/") a ≡ true
 slash-of-here [] h = h
-slash-of-here (y ∷ ys) h = rw (and-left (eqb y (byte "/")) (begins (bytes ">") ys) h)
+slash-of-here (y ∷ ys) h = rw (and_parts (eqb y (byte "/")) (begins (bytes ">") ys) h).0
 
 module _ (ρ : Rules) where
   abbrev fills : ℕ → List ℕ → Bool
@@ -138,7 +129,7 @@ module _ (ρ : Rules) where
   open-need n [] l s h = clash false s refl
   open-need n (y ∷ []) l s h = sym (open-is ρ n (y ∷ []) l) ∙ rw (slash-first y [] s)
   open-need n (y ∷ z ∷ zs) l s h =
-      let e : eqb z (byte ">") ≡ false = rw (slash-first y (z ∷ zs) s, and-yes (eqb z (byte ">"))) at h in
+      let e : eqb z (byte ">") ≡ false = rw (slash-first y (z ∷ zs) s, and-true (eqb z (byte ">"))) at h in
       sym (open-is ρ n (y ∷ z ∷ zs) l) ∙ rw (slash-first y (z ∷ zs) s, e)
 
   -- ---- an open tag
@@ -156,12 +147,12 @@ module _ (ρ : Rules) where
   open-complete x xs l =
       let slash : eqb x (byte "/") ≡ false = excluded isLetter (byte "/") x refl l in
       let a = after-length (x ∷ xs) in
-      rw (l, slash, name-left x xs l, or-no ((ρ.f3 || not (isRawName (nameOf (x ∷ xs)))) && fills (suc (suc (length xs))) (afterName (x ∷ xs))))
+      rw (l, slash, name-left x xs l, or-false ((ρ.f3 || not (isRawName (nameOf (x ∷ xs)))) && fills (suc (suc (length xs))) (afterName (x ∷ xs))))
       (ap (λ b. (ρ.f3 || not (isRawName (nameOf (x ∷ xs)))) && b) (same-fuel (suc (suc (length xs))) (suc (length (afterName (x ∷ xs)))) (afterName (x ∷ xs)) (omega arith) (omega arith)))
 
   open-basic : (x : ℕ) (xs : List ℕ) → isLetter x ≡ true → startsBasic (byte "<" ∷ x ∷ xs) ≡ basicName (x ∷ xs)
   unfolding startsBasic
-  open-basic x xs l = rw (excluded isLetter (byte "/") x refl l) (or-no (basicName (x ∷ xs)))
+  open-basic x xs l = rw (excluded isLetter (byte "/") x refl l) (or-false (basicName (x ∷ xs)))
 
   open-raw : (x : ℕ) (xs : List ℕ) → startsRaw (byte "<" ∷ x ∷ xs) ≡ (isRawName (nameOf (x ∷ xs)) && nameEnds (afterName (x ∷ xs)))
   unfolding startsRaw
@@ -189,14 +180,14 @@ module _ (ρ : Rules) where
       ∙ ap (λ b. choose b (λ _. choose (raw && not (begins (bytes "/") a)) (λ _. 1) (λ _. choose (isBlockName (nameOf (x ∷ xs))) (λ _. choose (begins (bytes "/") a) (λ _. choose (begins (bytes "/>") a) (λ _. 6) (λ _. 0)) (λ _. 6)) (λ _. choose (mayStart ρ f && c) (λ _. 7) (λ _. 0)))) (λ _. 0)) (sym (break-is a)))
     where
       completes-no : (raw : Bool) (a : List ℕ) → fills (suc (length a)) a ≡ false → completesOf ρ false raw a ≡ false
-      completes-no raw a h = rw h (and-no (ρ.f3 || not raw))
+      completes-no raw a h = rw h (and-false (ρ.f3 || not raw))
 
   -- ---- a closing tag
   close-shut : (a : List ℕ) → isNameBreak a ≡ false → fillsLine (exactly (bytes ">") (past isWhitespace a)) ≡ false
   close-shut [] h = clash true refl h
   close-shut (y ∷ ys) h =
-      let o = or-right (isWhitespace y) (eqb y (byte "/") || eqb y (byte ">")) h in
-      rw (past-none isWhitespace y ys (or-left (isWhitespace y) (eqb y (byte "/") || eqb y (byte ">")) h), or-right (eqb y (byte "/")) (eqb y (byte ">")) o)
+      let o = (or_parts (isWhitespace y) (eqb y (byte "/") || eqb y (byte ">")) h).1 in
+      rw (past-none isWhitespace y ys (or_parts (isWhitespace y) (eqb y (byte "/") || eqb y (byte ">")) h).0, (or_parts (eqb y (byte "/")) (eqb y (byte ">")) o).1)
 
   close-need : (a : List ℕ) → begins (bytes "/") a ≡ true → fillsLine (exactly (bytes ">") (past isWhitespace a)) ≡ false
   close-need [] h = clash false h refl
@@ -205,7 +196,7 @@ module _ (ρ : Rules) where
   close-complete : (x : ℕ) (xs : List ℕ) → isLetter x ≡ true
       → startsComplete ρ (bytes "</" ++ (x ∷ xs)) ≡ fillsLine (exactly (bytes ">") (past isWhitespace (afterName (x ∷ xs))))
   unfolding startsComplete openTag closingTag
-  close-complete x xs l = rw (l, name-left x xs l) (ap (λ b. b || fillsLine (exactly (bytes ">") (past isWhitespace (afterName (x ∷ xs))))) (and-no (ρ.f3 || not (isRawName (nameOf (byte "/" ∷ x ∷ xs))))))
+  close-complete x xs l = rw (l, name-left x xs l) (ap (λ b. b || fillsLine (exactly (bytes ">") (past isWhitespace (afterName (x ∷ xs))))) (and-false (ρ.f3 || not (isRawName (nameOf (byte "/" ∷ x ∷ xs))))))
 
   close-basic : (s : List ℕ) → startsBasic (bytes "</" ++ s) ≡ basicName s
   unfolding startsBasic
@@ -225,14 +216,14 @@ module _ (ρ : Rules) where
       let raw : Bool = isRawName (nameOf (x ∷ xs)) in
       let c : Bool = fillsLine (exactly (bytes ">") (past isWhitespace a)) in
       by-two f (x ∷ xs)
-      ∙ rw (close-basic (x ∷ xs), close-complete x xs l, and-no raw)
+      ∙ rw (close-basic (x ∷ xs), close-complete x xs l, and-false raw)
       (agree (nameEnds a) (begins (bytes "/") a) (begins (bytes "/>") a) false (isBlockName (nameOf (x ∷ xs))) c (mayStart ρ f) (no-both-here a)
       (λ h. close-shut a (break-is a ∙ h)) (λ s h. close-need a s) (slash-of-here a)
       ∙ ap (λ b. choose b (λ _. choose (isBlockName (nameOf (x ∷ xs))) (λ _. choose (begins (bytes "/") a) (λ _. choose (begins (bytes "/>") a) (λ _. 6) (λ _. 0)) (λ _. 6)) (λ _. choose (mayStart ρ f && c) (λ _. 7) (λ _. 0))) (λ _. 0)) (sym (break-is a)))
 
   complete-no : (s : List ℕ) → isLetter (first s) ≡ false → startsComplete ρ (bytes "</" ++ s) ≡ false
   unfolding startsComplete openTag closingTag
-  complete-no s e = rw e (ap (λ b. b || false) (and-no (ρ.f3 || not (isRawName (nameOf (byte "/" ∷ s))))))
+  complete-no s e = rw e (ap (λ b. b || false) (and-false (ρ.f3 || not (isRawName (nameOf (byte "/" ∷ s))))))
 
   close-other : (f : ℕ) (s : List ℕ) → isLetter (first s) ≡ false → kindAt ρ f (bytes "</" ++ s) ≡ 0
   close-other f s e = by-two f s ∙ rw (close-basic s, no-block-name s e) (ap (λ b. choose (b && mayStart ρ f) (λ _. 7) (λ _. 0)) (complete-no s e))
@@ -254,8 +245,8 @@ module _ (ρ : Rules) where
 
   pub not-opened : (f x : ℕ) (xs : List ℕ) → eqb x (byte "<") ≡ false → kindAt ρ f (x ∷ xs) ≡ 0
   unfolding kindAt startsRaw startsBasic startsComplete openTag closingTag
-  not-opened f x xs e = rw e (ap (λ b. choose ((b || false) && mayStart ρ f) (λ _. 7) (λ _. 0)) (and-no (ρ.f3 || not (isRawName (nameOf xs)))))
+  not-opened f x xs e = rw e (ap (λ b. choose ((b || false) && mayStart ρ f) (λ _. 7) (λ _. 0)) (and-false (ρ.f3 || not (isRawName (nameOf xs)))))
 
   pub nothing-opened : (f : ℕ) → kindAt ρ f [] ≡ 0
   unfolding kindAt startsRaw startsBasic startsComplete openTag closingTag
-  nothing-opened f = ap (λ b. choose ((b || false) && mayStart ρ f) (λ _. 7) (λ _. 0)) (and-no (ρ.f3 || not (isRawName (nameOf []))))
+  nothing-opened f = ap (λ b. choose ((b || false) && mayStart ρ f) (λ _. 7) (λ _. 0)) (and-false (ρ.f3 || not (isRawName (nameOf []))))

@@ -1,155 +1,139 @@
 -- The openings at an index of a line.
-use mathlib.Core.Path.{◌≡◌, refl, sym, ◌∙◌, ap}
-use mathlib.Core.Bool.{Bool, true, false, ◌&&◌, ◌||◌, not}
-use mathlib.Core.List.{List, [], ◌∷◌}
-use Prim.Native.Nat.{ℕ, suc, ◌+◌, ◌<◌, ◌≤◌}
-use native.Mathlib.Omega.{arith}
-use lib.Dec.{eqb, leb}
-use lib.ListN.{length, get_or, take, drop}
-use borrow.Author.Tests.{eqb-true, ne_eqb, lt-leb, le-leb}
-use Rattle.lexical.specs.Text.{byte, first, run}
+use Rattle.std.proofs.lemmas.List.{drop_more}
+use borrow.Author.Tests.{lt-leb}
+use Rattle.std.proofs.Common.{Some, None, ◌≡◌, refl, sym, ◌∙◌, ap, Bool, true, false, ◌||◌, not, List, [], ◌∷◌, ℕ, suc, ◌+◌, ◌<◌, ◌≤◌, arith, eqb, leb, ltb, length, take, drop, eqb-true, ltb-true, ltb-false, le-leb}
+use Rattle.std.specs.Option.{option_eq, unwrap_or}
+use Rattle.lexical.proofs.Peek.{asked}
+use Rattle.lexical.specs.Text.{byte, none, first, run}
 use Rattle.lexical.specs.Byte.{isLetter, isSpaceOrTab, isLineEndingByte}
 use Rattle.lexical.specs.Name.{cdataPrefix}
 use Rattle.lexical.specs.Line.{lineLength}
-use Rattle.lexical.proofs.Cases.{split, excluded}
-use Rattle.lexical.proofs.Suffix.{suffix-in, suffix-out, first-in}
+use Rattle.lexical.proofs.Cases.{split}
+use Rattle.lexical.proofs.Suffix.{first-in, first-out}
 use Rattle.rules.specs.Search.{choose, begins}
-use Rattle.rules.specs.Tag.{blockTags, attributes}
-use Rattle.rules.specs.Block.{nameOf, afterName, fillsLine, mayStart, kindAt, kindOf, indentation, placeIn, tagName}
+use Rattle.rules.specs.Block.{nameOf, afterName, kindAt, kindOf, indentation, placeIn, tagName}
 use Rattle.rules.specs.Lines.{Line, line}
 use Rattle.rules.specs.declared.Rules.{Rules}
 use Rattle.rules.proofs.Cut.{space-apart}
 use Rattle.rules.proofs.Prefix.{one-first}
+use Rattle.std.specs.declared.option.Option.{Option}
 use Rattle.flow.specs.Answer.{openingNumber}
-use Rattle.flow.specs.declared.html_flow.Opening.{Opening}
+use Rattle.flow.specs.declared.block.Opening.{Opening}
 use Rattle.flow.specs.CompleteMachine.{runOf}
-use Rattle.flow.specs.OpenMachine.{selfClosingOf, completesOf, completeOf, tagNameOf, commentOpenOf, declarationOpenOf, tagCloseStartOf, openOf, Names}
+use Rattle.flow.specs.OpenMachine.{selfClosingOf, completesOf, tagNameOf, commentOpenOf, declarationOpenOf, tagCloseStartOf, openOf, Names}
 use Rattle.flow.specs.declared.tokenizer.StateName.TheVariants.{CompleteClosingTagAfter, CompleteAttributeValueQuotedAfter}
 use Rattle.flow.proofs.CompleteMeans.{open-is, close-is}
 use Rattle.flow.proofs.OpenMeans.{kind-is, not-opened, nothing-opened}
 
--- ---- complete tags
-module _ (ρ : Rules) (f : ℕ) (a : List ℕ) where
-  -- by two bits: kind 7 may start, and the tag completes
-  by-bits : (closing raw b : Bool) → mayStart ρ f ≡ true → completesOf ρ closing raw a ≡ b → completeOf ρ f closing raw a ≡ choose b (λ _. 7) (λ _. 0)
-  unfolding completeOf
-  by-bits closing raw b m e = ap (λ t. choose (t && completesOf ρ closing raw a) (λ _. 7) (λ _. 0)) m ∙ ap (λ t. choose t (λ _. 7) (λ _. 0)) e
+-- ---- a byte that was asked for at an index
+-- a byte x, and not the word for a missing one, stands there
+stands-there : (line : List ℕ) (i x : ℕ) → ltb x none ≡ true → first (drop i line) ≡ x → drop i line ≡ x ∷ drop (i + 1) line
+stands-there line i x k f =
+    let l : x < none = ltb-true x none k in
+    split (ltb i (length line))
+    (λ t. let m = ltb-true i (length line) t in drop_more line i 0 m ∙ ap (λ b. b ∷ drop (i + 1) line) (sym (first-in line i m) ∙ f))
+    (λ t. let o = first-out line i (ltb-false i (length line) t) in absurd (omega (arith, o, f, l)))
 
-  pub may-not : (closing raw : Bool) → mayStart ρ f ≡ false → completeOf ρ f closing raw a ≡ 0
-  unfolding completeOf
-  may-not closing raw m = ap (λ t. choose (t && completesOf ρ closing raw a) (λ _. 7) (λ _. 0)) m
+module _ (r : Option ℕ) (line : List ℕ) (i : ℕ) (e : unwrap_or r none ≡ first (drop i line)) where
+  pub first-some : (x : ℕ) → r ≡ Some x → first (drop i line) ≡ x
+  first-some x h = sym e ∙ ap (λ (o : Option ℕ). unwrap_or o none) h
 
-  pub closing-tag : (raw b : Bool) → mayStart ρ f ≡ true → runOf ρ CompleteClosingTagAfter a ≡ b → completeOf ρ f true raw a ≡ choose b (λ _. 7) (λ _. 0)
-  closing-tag raw b m e = by-bits true raw b m (sym (close-is ρ a) ∙ e)
+  pub first-none : r ≡ None → first (drop i line) ≡ none
+  first-none h = sym e ∙ ap (λ (o : Option ℕ). unwrap_or o none) h
 
-  pub open-tag : (raw b : Bool) → mayStart ρ f ≡ true → (ρ.f3 || not raw) ≡ true → runOf ρ CompleteAttributeValueQuotedAfter a ≡ b → completeOf ρ f false raw a ≡ choose b (λ _. 7) (λ _. 0)
-  open-tag raw b m t e =
-      by-bits false raw b m
-      (ap (λ x. x && fillsLine (attributes (blockTags ρ) (suc (length a)) a)) t ∙ sym (open-is ρ (suc (length a)) a (omega arith)) ∙ e)
+  -- by the answer of a test for a byte
+  module _ (b : ℕ) (k : ltb b none ≡ true) (t : Bool) (w : t ≡ option_eq eqb r (Some b)) where
+    pub first-test : eqb (first (drop i line)) b ≡ t
+    first-test = sym (asked r (drop i line) b k e) ∙ sym w
 
-  pub raw-tag : (raw : Bool) → mayStart ρ f ≡ true → (ρ.f3 || not raw) ≡ false → completeOf ρ f false raw a ≡ 0
-  raw-tag raw m t = by-bits false raw false m (ap (λ x. x && fillsLine (attributes (blockTags ρ) (suc (length a)) a)) t)
+    pub asked-there : t ≡ true → drop i line ≡ b ∷ drop (i + 1) line
+    asked-there h = stands-there line i b k (eqb-true (first (drop i line)) b (first-test ∙ h))
+
+  -- by the value of a byte
+  pub there : (x y : ℕ) → ltb x none ≡ true → r ≡ Some y → y ≡ x → drop i line ≡ x ∷ drop (i + 1) line
+  there x y k h z = stands-there line i x k (first-some y h ∙ z)
+
+-- ---- complete tags: what the run says
+pub closing-tag : (ρ : Rules) (raw : Bool) (a : List ℕ) → runOf ρ CompleteClosingTagAfter a ≡ completesOf ρ true raw a
+closing-tag ρ raw a = close-is ρ a
+
+pub open-tag : (ρ : Rules) (raw : Bool) (a : List ℕ) → (ρ.f3 || not raw) ≡ true → runOf ρ CompleteAttributeValueQuotedAfter a ≡ completesOf ρ false raw a
+open-tag ρ raw a t = rw t (open-is ρ (suc (length a)) a (omega arith))
 
 -- ---- the name that an opening carries
-pub renamed : (r : Opening) (m n : List ℕ) → m ≡ n → Names r m → Names r n
+pub renamed : (r : Option Opening) (m n : List ℕ) → m ≡ n → Names r m → Names r n
 renamed r m n e h = h ∙ ap (placeIn (openingNumber r)) e
 
--- ---- behind a name
-module _ (line : List ℕ) (i : ℕ) where
-  pub self-out : length line ≤ i → selfClosingOf (drop i line) ≡ 0
-  unfolding selfClosingOf
-  self-out h = rw (suffix-out line i h)
+-- ---- behind a name, by the first byte of what is left
+pub self-in : (s t : List ℕ) → s ≡ byte "/" ∷ t → selfClosingOf s ≡ choose (eqb (first t) (byte ">")) (λ _. 6) (λ _. 0)
+unfolding selfClosingOf
+self-in s t e = rw e (ap (λ b. choose b (λ _. 6) (λ _. 0)) (one-first (byte ">") t refl))
 
-  pub self-other : i < length line → (get_or line i 0 ≡ byte "/" → ⊥) → selfClosingOf (drop i line) ≡ 0
-  unfolding selfClosingOf
-  self-other h e = rw (suffix-in line i h, ne_eqb (get_or line i 0) (byte "/") e)
-
-  pub self-in : i < length line → get_or line i 0 ≡ byte "/" → selfClosingOf (drop i line) ≡ choose (eqb (first (drop (i + 1) line)) (byte ">")) (λ _. 6) (λ _. 0)
-  unfolding selfClosingOf
-  self-in h e = rw (suffix-in line i h, e) (ap (λ b. choose b (λ _. 6) (λ _. 0)) (one-first (byte ">") (drop (i + 1) line) refl))
+pub self-other : (s : List ℕ) → eqb (first s) (byte "/") ≡ false → selfClosingOf s ≡ 0
+unfolding selfClosingOf
+self-other [] e = refl
+self-other (x ∷ t) e = rw e
 
 pub comment-first : (s : List ℕ) → commentOpenOf s ≡ choose (eqb (first s) (byte "-")) (λ _. 2) (λ _. 0)
 unfolding commentOpenOf
 comment-first s = ap (λ b. choose b (λ _. 2) (λ _. 0)) (one-first (byte "-") s refl)
 
--- ---- behind `<!`, `</` and `<`
-module _ (line : List ℕ) (i : ℕ) where
-  abbrev b : ℕ
-  b = get_or line i 0
+-- ---- behind `<!`
+pub declaration-dash : (s t : List ℕ) → s ≡ byte "-" ∷ t → declarationOpenOf s ≡ commentOpenOf t
+unfolding declarationOpenOf commentOpenOf
+declaration-dash s t e = rw e
 
-  abbrev rest : List ℕ
-  rest = drop (i + 1) line
+pub declaration-cdata : (s t : List ℕ) → s ≡ byte "[" ∷ t → declarationOpenOf s ≡ choose (begins cdataPrefix t) (λ _. 5) (λ _. 0)
+unfolding declarationOpenOf cdataPrefix
+declaration-cdata s t e = rw e
 
-  pub declaration-out : length line ≤ i → declarationOpenOf (drop i line) ≡ 0
-  unfolding declarationOpenOf
-  declaration-out h = rw (suffix-out line i h)
+pub declaration-other : (s : List ℕ) (x : ℕ) (l : Bool) → first s ≡ x → eqb x (byte "-") ≡ false → eqb x (byte "[") ≡ false → isLetter x ≡ l
+    → declarationOpenOf s ≡ choose l (λ _. 4) (λ _. 0)
+unfolding declarationOpenOf
+declaration-other [] x l e d g h = ap (λ b. choose b (λ _. 4) (λ _. 0)) (ap isLetter e ∙ h)
+declaration-other (y ∷ t) x l e d g h = rw (e, d, h, g)
 
-  pub declaration-dash : i < length line → b ≡ byte "-" → declarationOpenOf (drop i line) ≡ commentOpenOf rest
-  unfolding declarationOpenOf commentOpenOf
-  declaration-dash h e = rw (suffix-in line i h, e)
+-- ---- the tag name behind `</` and behind `<`
+pub name-slash : (s t : List ℕ) → s ≡ byte "/" ∷ t → tagName (byte "<" ∷ s) ≡ nameOf t
+name-slash s t e = rw e
 
-  pub declaration-letter : i < length line → isLetter b ≡ true → declarationOpenOf (drop i line) ≡ 4
-  unfolding declarationOpenOf
-  declaration-letter h l = rw (suffix-in line i h, excluded isLetter (byte "-") b refl l, l)
+pub name-here : (s : List ℕ) → eqb (first s) (byte "/") ≡ false → tagName (byte "<" ∷ s) ≡ nameOf s
+name-here [] e = refl
+name-here (x ∷ t) e = rw e
 
-  pub declaration-cdata : i < length line → b ≡ byte "[" → declarationOpenOf (drop i line) ≡ choose (begins cdataPrefix rest) (λ _. 5) (λ _. 0)
-  unfolding declarationOpenOf cdataPrefix
-  declaration-cdata h e = rw (suffix-in line i h, e)
+-- ---- behind `</` and `<`
+module _ (ρ : Rules) (f : ℕ) where
+  pub close-in : (s : List ℕ) (x : ℕ) (l : Bool) → first s ≡ x → isLetter x ≡ l
+      → tagCloseStartOf ρ f s ≡ choose l (λ _. tagNameOf ρ f true (nameOf s) (afterName s)) (λ _. 0)
+  unfolding tagCloseStartOf
+  close-in s x l e h = ap (λ b. choose b (λ _. tagNameOf ρ f true (nameOf s) (afterName s)) (λ _. 0)) (ap isLetter e ∙ h)
 
-  pub declaration-other : i < length line → (b ≡ byte "-" → ⊥) → isLetter b ≡ false → (b ≡ byte "[" → ⊥) → declarationOpenOf (drop i line) ≡ 0
-  unfolding declarationOpenOf
-  declaration-other h e l g = rw (suffix-in line i h, ne_eqb b (byte "-") e, l, ne_eqb b (byte "[") g)
-
-  -- the tag name behind `</` and behind `<`
-  pub name-slash : i < length line → b ≡ byte "/" → tagName (byte "<" ∷ drop i line) ≡ nameOf rest
-  name-slash h e = rw (suffix-in line i h, e)
-
-  pub name-here : i < length line → (b ≡ byte "/" → ⊥) → tagName (byte "<" ∷ drop i line) ≡ nameOf (drop i line)
-  name-here h e = rw (suffix-in line i h, ne_eqb b (byte "/") e)
-
-  pub marked : i < length line → b ≡ byte "<" → drop i line ≡ byte "<" ∷ rest
-  marked h e = suffix-in line i h ∙ ap (λ x. x ∷ rest) e
-
-  module _ (ρ : Rules) (f : ℕ) where
-    pub close-out : length line ≤ i → tagCloseStartOf ρ f (drop i line) ≡ 0
-    unfolding tagCloseStartOf
-    close-out h = rw (suffix-out line i h)
-
-    pub close-in : (t : Bool) → i < length line → isLetter b ≡ t
-        → tagCloseStartOf ρ f (drop i line) ≡ choose t (λ _. tagNameOf ρ f true (nameOf (drop i line)) (afterName (drop i line))) (λ _. 0)
-    unfolding tagCloseStartOf
-    close-in t h e = ap (λ x. choose x (λ _. tagNameOf ρ f true (nameOf (drop i line)) (afterName (drop i line))) (λ _. 0)) (ap isLetter (first-in line i h) ∙ e)
-
-    pub open-out : length line ≤ i → openOf ρ f (drop i line) ≡ 0
+  module _ (s t : List ℕ) where
+    pub open-mark : s ≡ byte "!" ∷ t → openOf ρ f s ≡ declarationOpenOf t
     unfolding openOf
-    open-out h = rw (suffix-out line i h)
+    open-mark e = rw e
 
-    pub open-mark : i < length line → b ≡ byte "!" → openOf ρ f (drop i line) ≡ declarationOpenOf rest
+    pub open-slash : s ≡ byte "/" ∷ t → openOf ρ f s ≡ tagCloseStartOf ρ f t
     unfolding openOf
-    open-mark h e = rw (suffix-in line i h, e)
+    open-slash e = rw e
 
-    pub open-slash : i < length line → b ≡ byte "/" → openOf ρ f (drop i line) ≡ tagCloseStartOf ρ f rest
+    pub open-question : s ≡ byte "?" ∷ t → openOf ρ f s ≡ 3
     unfolding openOf
-    open-slash h e = rw (suffix-in line i h, e)
+    open-question e = rw e
 
-    pub open-question : i < length line → b ≡ byte "?" → openOf ρ f (drop i line) ≡ 3
-    unfolding openOf
-    open-question h e = rw (suffix-in line i h, e)
+    pub before-in : s ≡ byte "<" ∷ t → kindAt ρ f s ≡ openOf ρ f t
+    before-in e = ap (kindAt ρ f) e ∙ kind-is ρ f t
 
-    -- a byte that is none of these
-    pub open-name : (t : Bool) → i < length line → (b ≡ byte "!" → ⊥) → (b ≡ byte "/" → ⊥) → (b ≡ byte "?" → ⊥) → isLetter b ≡ t
-        → openOf ρ f (drop i line) ≡ choose t (λ _. tagNameOf ρ f false (nameOf (drop i line)) (afterName (drop i line))) (λ _. 0)
-    unfolding openOf
-    open-name t h x y z e = rw (suffix-in line i h, ne_eqb b (byte "!") x, ne_eqb b (byte "/") y, ne_eqb b (byte "?") z, e)
+  -- a byte that is none of these, or none
+  pub open-name : (s : List ℕ) (x : ℕ) (l : Bool) → first s ≡ x → eqb x (byte "!") ≡ false → eqb x (byte "/") ≡ false → eqb x (byte "?") ≡ false → isLetter x ≡ l
+      → openOf ρ f s ≡ choose l (λ _. tagNameOf ρ f false (nameOf s) (afterName s)) (λ _. 0)
+  unfolding openOf
+  open-name [] x l e p q r h = ap (λ b. choose b (λ _. tagNameOf ρ f false (nameOf []) (afterName [])) (λ _. 0)) (ap isLetter e ∙ h)
+  open-name (y ∷ t) x l e p q r h = rw (e, p, q, r, h)
 
-    pub before-out : length line ≤ i → kindAt ρ f (drop i line) ≡ 0
-    before-out h = ap (kindAt ρ f) (suffix-out line i h) ∙ nothing-opened ρ f
-
-    pub before-other : i < length line → (b ≡ byte "<" → ⊥) → kindAt ρ f (drop i line) ≡ 0
-    before-other h e = ap (kindAt ρ f) (suffix-in line i h) ∙ not-opened ρ f b rest (ne_eqb b (byte "<") e)
-
-    pub before-in : i < length line → b ≡ byte "<" → kindAt ρ f (drop i line) ≡ openOf ρ f rest
-    before-in h e = ap (kindAt ρ f) (marked h e) ∙ kind-is ρ f rest
+  pub before-other : (s : List ℕ) → eqb (first s) (byte "<") ≡ false → kindAt ρ f s ≡ 0
+  before-other [] e = nothing-opened ρ f
+  before-other (x ∷ t) e = not-opened ρ f x t e
 
 -- ---- the indentation
 module _ (ρ : Rules) (l : Line) where
@@ -178,12 +162,7 @@ indent-first (x ∷ xs) h =
     (λ e. split (isLineEndingByte x) (λ r. simp r)
     (λ r. split (eqb x (byte "\t")) (λ t. rw (eqb-true x (byte "\t") t)) (λ t. let u : eqb x (byte "<") ≡ false = simp (e, t) at h in simp (e, r, u))))
 
-module _ (ρ : Rules) (f : ℕ) where
-  unmarked : (s : List ℕ) → eqb (first s) (byte "<") ≡ false → kindAt ρ f s ≡ 0
-  unmarked [] h = nothing-opened ρ f
-  unmarked (x ∷ xs) h = not-opened ρ f x xs h
-
-  pub no-kind : (s : List ℕ) → eqb (first (drop (run isSpaceOrTab s) s)) (byte "<") ≡ false → kindOf ρ (line f [] (take (lineLength s) s)) ≡ 0
-  no-kind s h =
-      let l : Line = line f [] (take (lineLength s) s) in
-      split (leb (indent ρ l) 3) (λ e. by-depth ρ l true e ∙ unmarked (drop (indent ρ l) l.content) (indent-first s h)) (λ e. by-depth ρ l false e)
+pub no-kind : (ρ : Rules) (f : ℕ) (s : List ℕ) → eqb (first (drop (run isSpaceOrTab s) s)) (byte "<") ≡ false → kindOf ρ (line f [] (take (lineLength s) s)) ≡ 0
+no-kind ρ f s h =
+    let l : Line = line f [] (take (lineLength s) s) in
+    split (leb (indent ρ l) 3) (λ e. by-depth ρ l true e ∙ before-other ρ f (drop (indent ρ l) l.content) (indent-first s h)) (λ e. by-depth ρ l false e)

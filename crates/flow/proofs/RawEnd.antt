@@ -1,23 +1,18 @@
 -- A raw end tag by its letters. The recursion takes letters, at most eight, and asks at `>` whether they are a raw name; a raw name has at most eight bytes,
 -- all letters, so that this is the same as asking of the whole tag name whether it is one and `>` follows.
-use mathlib.Core.Path.{◌≡◌, refl, sym, ◌∙◌, ap}
-use mathlib.Core.Bool.{Bool, true, false, ◌&&◌}
-use mathlib.Core.List.{List, [], ◌∷◌}
-use Prim.Native.Nat.{ℕ, zero, suc, ◌+◌, ◌-◌, ◌<◌, ◌≤◌}
-use native.Mathlib.Omega.{arith}
-use lib.Dec.{eqb}
-use lib.ListN.{length, get_or, take, drop}
-use lib.Seq.{drop-drop, get_or-take, get_or-drop, length-take-le}
+use Rattle.std.proofs.Common.{◌≡◌, refl, sym, ◌∙◌, ap, Bool, true, false, ◌&&◌, List, [], ◌∷◌, ℕ, zero, suc, ◌+◌, ◌-◌, ◌<◌, ◌≤◌, arith, eqb, length, get_or, take, drop, drop-drop, get_or-take, get_or-drop, length-take-le, eqb-true}
+use Rattle.std.proofs.lemmas.List.{drop_more}
+use Rattle.std.proofs.lemmas.Bool.{or_parts}
+use Rattle.std.proofs.Math.Bool.{and-false, and-true}
 use Rattle.lexical.proofs.Run.{run-length}
-use borrow.Author.Tests.{ne_eqb, eqb-true, not-true}
+use borrow.Author.Tests.{not-true}
 use Rattle.lexical.specs.Text.{byte, bytes, first, run}
 use Rattle.lexical.specs.Byte.{isLetter, isTagNameByte, isLineEndingByte}
 use Rattle.lexical.specs.Line.{isInner}
 use Rattle.lexical.specs.Name.{isRawName}
-use Rattle.lexical.proofs.Cases.{split, clash, or-left, and-no, and-yes, letter-byte}
+use Rattle.lexical.proofs.Cases.{split, clash, letter-byte}
 use Rattle.lexical.proofs.Members.{raw-letters, raw-length}
 use Rattle.lexical.proofs.Table.{all-at}
-use Rattle.lexical.proofs.Suffix.{suffix-in, suffix-out, first-in, first-out}
 use Rattle.rules.specs.Search.{begins}
 use Rattle.rules.proofs.Past.{firstFrom, first-behind}
 use Rattle.rules.specs.Block.{nameOf, afterName, isRawEnd}
@@ -34,37 +29,34 @@ module _ (line : List ℕ) (start at : ℕ) (order : start ≤ at) where
   at-drop : drop m t ≡ drop at line
   at-drop = let e : start + m ≡ at = omega arith in drop-drop m start line ∙ ap (λ (i : ℕ). drop i line) e
 
-  first-here : at < length line → first (drop m t) ≡ get_or line at 0
-  first-here h = ap first at-drop ∙ first-in line at h
+  -- the byte there, or the word for none
+  module _ (x : ℕ) (e : first (drop at line) ≡ x) where
+    first-here : first (drop m t) ≡ x
+    first-here = ap first at-drop ∙ e
 
-  pub at-end : (n : ℕ) → length line ≤ at → rawEndOf n t m ≡ false
-  unfolding rawEndOf
-  at-end zero h = rw (at-drop, first-out line at h)
-  at-end (suc n) h = rw (at-drop, first-out line at h)
+    pub at-mark : (n : ℕ) → x ≡ byte ">" → rawEndOf n t m ≡ isRawName (take m t)
+    unfolding rawEndOf
+    at-mark zero h = rw (first-here, h)
+    at-mark (suc n) h = rw (first-here, h)
 
-  pub at-mark : (n : ℕ) → at < length line → get_or line at 0 ≡ byte ">" → rawEndOf n t m ≡ isRawName (take m t)
-  unfolding rawEndOf
-  at-mark zero h e = rw (first-here h, e)
-  at-mark (suc n) h e = rw (first-here h, e)
+    module _ (other : eqb x (byte ">") ≡ false) where
+      pub at-letter : (n : ℕ) → isLetter x ≡ true → 0 < n → rawEndOf n t m ≡ rawEndOf (n - 1) t ((at + 1) - start)
+      unfolding rawEndOf
+      at-letter zero l p = absurd (omega arith)
+      at-letter (suc n) l p =
+          let a : suc m ≡ (at + 1) - start = omega arith in
+          let b : suc n - 1 ≡ n = omega arith in
+          rw (first-here, other, l, b, a)
 
-  pub at-letter : (n : ℕ) → at < length line → (get_or line at 0 ≡ byte ">" → ⊥) → isLetter (get_or line at 0) ≡ true → 0 < n
-      → rawEndOf n t m ≡ rawEndOf (n - 1) t ((at + 1) - start)
-  unfolding rawEndOf
-  at-letter zero h e l p = absurd (omega arith)
-  at-letter (suc n) h e l p =
-      let a : suc m ≡ (at + 1) - start = omega arith in
-      let b : suc n - 1 ≡ n = omega arith in
-      rw (first-here h, ne_eqb (get_or line at 0) (byte ">") e, l, b, a)
+      pub at-last : (n : ℕ) → n ≤ 0 → rawEndOf n t m ≡ false
+      unfolding rawEndOf
+      at-last zero p = rw (first-here, other)
+      at-last (suc n) p = absurd (omega arith)
 
-  pub at-last : (n : ℕ) → at < length line → (get_or line at 0 ≡ byte ">" → ⊥) → n ≤ 0 → rawEndOf n t m ≡ false
-  unfolding rawEndOf
-  at-last zero h e p = rw (first-here h, ne_eqb (get_or line at 0) (byte ">") e)
-  at-last (suc n) h e p = absurd (omega arith)
-
-  pub at-other : (n : ℕ) → at < length line → (get_or line at 0 ≡ byte ">" → ⊥) → isLetter (get_or line at 0) ≡ false → rawEndOf n t m ≡ false
-  unfolding rawEndOf
-  at-other zero h e l = rw (first-here h, ne_eqb (get_or line at 0) (byte ">") e)
-  at-other (suc n) h e l = rw (first-here h, ne_eqb (get_or line at 0) (byte ">") e, l)
+      pub at-other : (n : ℕ) → isLetter x ≡ false → rawEndOf n t m ≡ false
+      unfolding rawEndOf
+      at-other zero l = rw (first-here, other)
+      at-other (suc n) l = rw (first-here, other, l)
 
 -- ---- the letters so far are a tag name's, and n + m is eight
 abbrev whole : List ℕ → Bool
@@ -153,18 +145,18 @@ module _ (t : List ℕ) where
   mark-run y e = rw (eqb-true y (byte ">") e)
 
   at-end-mark : (n m y : ℕ) (ys : List ℕ) → Goes m (y ∷ ys) → eqb y (byte ">") ≡ true → rawEndOf n t m ≡ whole t
-  at-end-mark n m y ys g e = says n m y ys g.rest e ∙ sym (stopped m (y ∷ ys) g (run-none y ys (mark-run y e)) ∙ rw e (and-yes (isRawName (take m t))))
+  at-end-mark n m y ys g e = says n m y ys g.rest e ∙ sym (stopped m (y ∷ ys) g (run-none y ys (mark-run y e)) ∙ rw e (and-true (isRawName (take m t))))
 
   -- a byte that is neither `>` nor a letter
   other-is : (m y : ℕ) (ys : List ℕ) → Goes m (y ∷ ys) → eqb y (byte ">") ≡ false → isLetter y ≡ false → whole t ≡ false
   other-is m y ys g e l =
       split (isTagNameByte y)
       (λ b. not-raw (no-raw (nameOf t) m (omega (arith, reaches m y ys g b, name-length)) (ap isLetter (next-byte m y ys g (reaches m y ys g b)) ∙ l)))
-      (λ b. stopped m (y ∷ ys) g (run-none y ys b) ∙ rw e (and-no (isRawName (take m t))))
+      (λ b. stopped m (y ∷ ys) g (run-none y ys b) ∙ rw e (and-false (isRawName (take m t))))
 
   -- n letters more are allowed behind the m that were read
   rawEnd-is : (n m : ℕ) (u : List ℕ) → n + m ≡ 8 → Goes m u → rawEndOf n t m ≡ whole t
-  rawEnd-is n m [] k g = ended n m g.rest ∙ sym (stopped m [] g nil-run ∙ and-no (isRawName (take m t)))
+  rawEnd-is n m [] k g = ended n m g.rest ∙ sym (stopped m [] g nil-run ∙ and-false (isRawName (take m t)))
   rawEnd-is zero m (y ∷ ys) k g =
       split (eqb y (byte ">")) (λ e. at-end-mark zero m y ys g e)
       (λ e. split (isLetter y)
@@ -179,23 +171,18 @@ module _ (t : List ℕ) where
   pub raw-end-is : rawEndOf 8 t 0 ≡ whole t
   raw-end-is = rawEnd-is 8 0 t refl (record { rest = refl; name = omega arith })
 
--- ---- a raw end tag at an index of a line
-module _ (line : List ℕ) (i : ℕ) where
-  pub no-open : i < length line → (get_or line i 0 ≡ byte "<" → ⊥) → isRawEnd (drop i line) ≡ false
-  no-open h e = rw (suffix-in line i h, ne_eqb (get_or line i 0) (byte "<") e)
-
-  pub no-slash-left : i < length line → length line ≤ i + 1 → isRawEnd (drop i line) ≡ false
-  no-slash-left h l = rw (suffix-in line i h, suffix-out line (i + 1) l) (split (eqb (get_or line i 0) (byte "<")) (λ e. rw e) (λ e. rw e))
-
-  pub no-slash : i + 1 < length line → (get_or line (i + 1) 0 ≡ byte "/" → ⊥) → isRawEnd (drop i line) ≡ false
-  no-slash h e = let l : i < length line = omega arith in rw (suffix-in line i l, suffix-in line (i + 1) h, ne_eqb (get_or line (i + 1) 0) (byte "/") e) (split (eqb (get_or line i 0) (byte "<")) (λ k. rw k) (λ k. rw k))
-
-  pub raw-at : i + 1 < length line → get_or line i 0 ≡ byte "<" → get_or line (i + 1) 0 ≡ byte "/" → rawEndOf 8 (drop (i + 1 + 1) line) 0 ≡ isRawEnd (drop i line)
-  raw-at h a b = let l : i < length line = omega arith in rw (suffix-in line i l, suffix-in line (i + 1) h, a, b) (raw-end-is (drop (i + 1 + 1) line))
+-- ---- behind `</` at an index of a line
+pub raw-at : (line : List ℕ) (i : ℕ) → i < length line → get_or line i 0 ≡ byte "<" → drop (i + 1) line ≡ byte "/" ∷ drop (i + 1 + 1) line
+    → rawEndOf 8 (drop (i + 2) line) (i + 2 - (i + 2)) ≡ isRawEnd (drop i line)
+raw-at line i h a b =
+    let z : i + 2 - (i + 2) ≡ 0 = omega arith in
+    let k : i + 2 ≡ i + 1 + 1 = omega arith in
+    let e : whole (drop (i + 1 + 1) line) ≡ isRawEnd (drop i line) = rw (drop_more line i 0 h, a, b) in
+    ap (rawEndOf 8 (drop (i + 2) line)) z ∙ ap (λ (n : ℕ). rawEndOf 8 (drop n line) 0) k ∙ raw-end-is (drop (i + 1 + 1) line) ∙ e
 
 -- ---- no raw end tag begins at another byte than `<`
 no-tag : (x : ℕ) (xs : List ℕ) → isInner (byte "<") x ≡ true → isRawEnd (x ∷ xs) ≡ false
-no-tag x xs h = rw (or-left (eqb x (byte "<")) (isLineEndingByte x) (not-true _ h))
+no-tag x xs h = rw (or_parts (eqb x (byte "<")) (isLineEndingByte x) (not-true _ h)).0
 
 pub raw-end-behind : (line : List ℕ) (i j : ℕ) → j ≡ i + run (isInner (byte "<")) (drop i line) → firstFrom isRawEnd line i ≡ firstFrom isRawEnd line j
 raw-end-behind = first-behind (isInner (byte "<")) isRawEnd no-tag

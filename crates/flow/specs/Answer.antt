@@ -1,15 +1,15 @@
--- What the answers of the block scan say, by 01's numbers and values for each case.
-use Rattle.std.specs.Prelude.{ℕ}
+-- What the answers of the block scan say, by the numbers and values of SCOPE for each case.
+use Rattle.std.specs.Prelude.{ℕ, Option, Some, None, Result, Ok, Err, is_some, unwrap_or}
 use Rattle.lexical.specs.Name.{unnamed}
+use Rattle.rules.specs.Refusal.{refusalNumber}
 use Rattle.rules.specs.Scan.{found, BlockAnswer, foundBlock, noBlock, refusedBlock}
+use Rattle.rules.specs.declared.refusal.Refusal.{Refusal}
 use Rattle.flow.specs.declared.html_flow.Kind.{Kind}
 use Rattle.flow.specs.declared.html_flow.Kind.TheVariants.{Raw, Comment, Instruction, Declaration, Cdata, Basic, Complete}
-use Rattle.flow.specs.declared.html_flow.Opening.{Opening}
-use Rattle.flow.specs.declared.html_flow.Opening.TheVariants.{Shut, Opens}
-use Rattle.flow.specs.declared.scan.Block.{Block}
-use Rattle.flow.specs.declared.scan.Block.TheVariants.{Found, Missing, Refused}
+use Rattle.flow.specs.declared.block.Opening.{Opening}
+use Rattle.flow.specs.declared.block.Block.{Block}
 
--- 01, html_flow.rs: the kinds
+-- the number of a kind
 abbrev pub kindNumber : Kind → ℕ
 kindNumber Raw = 1
 kindNumber Comment = 2
@@ -20,17 +20,21 @@ kindNumber Basic = 6
 kindNumber Complete = 7
 
 -- the kind that a line opens, or 0
-abbrev pub openingNumber : Opening → ℕ
-openingNumber Shut = 0
-openingNumber (Opens kind name) = kindNumber kind
+abbrev pub openingNumber : Option Opening → ℕ
+openingNumber None = 0
+openingNumber (Some o) = kindNumber o.kind
 
 -- the place of its name
-abbrev pub openingName : Opening → ℕ
-openingName Shut = unnamed
-openingName (Opens kind name) = name
+abbrev pub openingName : Option Opening → ℕ
+openingName None = unnamed
+openingName (Some o) = unwrap_or o.name unnamed
 
--- found with kind, name, stop, whether a closer was met and where it begins; none; a refusal with its number
-abbrev pub blockAnswerOf : Block → BlockAnswer
-blockAnswerOf (Found b) = foundBlock (found (kindNumber b.kind) b.name b.stop b.closed b.closer)
-blockAnswerOf Missing = noBlock
-blockAnswerOf (Refused refusal) = refusedBlock refusal
+-- found with kind, name, stop, whether a closer was met and where it begins; or none
+abbrev pub foundOf : Option Block → BlockAnswer
+foundOf None = noBlock
+foundOf (Some b) = foundBlock (found (kindNumber b.kind) (unwrap_or b.name unnamed) b.stop (is_some b.closer) (unwrap_or b.closer b.stop))
+
+-- that, or a refusal with its number
+abbrev pub blockAnswerOf : Result (Option Block) Refusal → BlockAnswer
+blockAnswerOf (Ok b) = foundOf b
+blockAnswerOf (Err r) = refusedBlock (refusalNumber r)

@@ -1,15 +1,15 @@
 -- The openings of html_flow.rt, in the order of the code: the kind of a line from its tag's name on, and the name that an opening carries. It need not be
 -- believed: no public contract cites it, and proofs/OpenMeans.antt shows that the kind is that of the rules.
-use Rattle.std.specs.Prelude.{ℕ, suc, ◌≡◌, Bool, true, false, ◌&&◌, ◌||◌, not, List, drop, length}
+use Rattle.std.specs.Prelude.{ℕ, suc, ◌≡◌, Bool, true, false, ◌&&◌, ◌||◌, not, List, drop, length, Option}
 use Rattle.lexical.specs.Text.{bytes, first}
 use Rattle.lexical.specs.Byte.{isLetter, isWhitespace, isNameBreak}
-use Rattle.lexical.specs.Name.{isBlockName, isRawName, blockPlace}
+use Rattle.lexical.specs.Name.{isBlockName, isRawName, named, blockPlace}
 use Rattle.rules.specs.Search.{choose, begins, past, exactly}
 use Rattle.rules.specs.Tag.{blockTags, attributes}
 use Rattle.rules.specs.Block.{nameOf, afterName, fillsLine, mayStart, placeIn}
 use Rattle.rules.specs.declared.Rules.{Rules}
 use Rattle.flow.specs.Answer.{openingNumber, openingName}
-use Rattle.flow.specs.declared.html_flow.Opening.{Opening}
+use Rattle.flow.specs.declared.block.Opening.{Opening}
 
 -- a block name, then `/`: only before `>`
 unfoldable pub selfClosingOf : List ℕ → ℕ
@@ -56,13 +56,13 @@ openOf ρ f s =
 
 -- ---- the name that an opening carries
 -- it is the place of n in the list of its kind
-abbrev pub Names : Opening → List ℕ → Type 0
+abbrev pub Names : Option Opening → List ℕ → Type 0
 Names r n = openingName r ≡ placeIn (openingNumber r) n
 
 -- its kind has no list, so this holds of every n
-abbrev pub Unnamed : Opening → Type 0
+abbrev pub Unnamed : Option Opening → Type 0
 Unnamed r = (n : List ℕ) → Names r n
 
 -- the same of every n whose place among the block names was passed in
-abbrev pub NamesBasic : Opening → ℕ → Type 0
-NamesBasic r name = (n : List ℕ) → name ≡ blockPlace n → Names r n
+abbrev pub NamesBasic : Option Opening → Option ℕ → Type 0
+NamesBasic r name = (n : List ℕ) → name ≡ named (blockPlace n) → Names r n

@@ -1,11 +1,13 @@
 // html_flow.rs: HTML blocks. A function for each state, over one line without its ending; `continuation_start` goes from line to line.
 //
-// F1 lives in the states inside CDATA, F2, F4 and F5 in the complete states, F3 in `complete`, F6 in `may_start`. A `Retry` of the Rust is a call.
-ghost use Rattle.std.specs.Prelude.{◌≡◌, ◌-◌, ◌<◌, ◌≤◌, length, drop, [], ◌∷◌};
+// F1 lives in the states inside CDATA, F2, F4 and F5 in the complete states, F3 in `completes`, F6 in `may_start`. A `Retry` of the Rust is a call.
+ghost use Rattle.std.specs.Prelude.{◌≡◌, true, ◌-◌, ◌<◌, ◌≤◌, length, drop, [], ◌∷◌, Some, Ok, is_some, unwrap_or, ◌↔◌};
 ghost use Rattle.flow.specs.CompleteMachine.{endOf, afterOf, closingTagAfterOf, nameBeforeOf, nameAfterOf, nameOf, valueQuotedOf, valueQuotedAfterOf, valueUnquotedOf, valueBeforeOf};
 ghost use Rattle.rules.specs.Search.{before as standsBefore};
 ghost use Rattle.rules.specs.Block.{isRawEnd, beforeCloser, closes};
+ghost use Rattle.flow.specs.Place.{isPlace};
 ghost use Rattle.flow.specs.Answer.{kindNumber};
+ghost use Rattle.flow.specs.declared.html_flow.Kind.{Kind};
 ghost use Rattle.flow.specs.ContinuationMachine.{continuationOf, commentInsideOf, cdataInsideOf, stays, declarationInsideOf, nextOf, isClose, isContinuation, closerStart, closerLength, closedAt, rawEndOf};
 ghost use Rattle.flow.specs.declared.html_flow.ContinuationName.TheVariants.{Continuation, ContinuationClose};
 ghost use Rattle.lexical.specs.Text.{byte};
@@ -13,28 +15,30 @@ ghost use Rattle.lexical.specs.Name.{cdataPrefix};
 ghost use Rattle.rules.specs.Search.{begins};
 ghost use Rattle.rules.specs.Lines.{line as lineOf};
 ghost use Rattle.rules.specs.Block.{nameOf as tagNameIn, afterName, mayStart, kindAt, kindOf, tagName, placeOf};
-ghost use Rattle.flow.specs.Answer.{openingNumber, openingName, blockAnswerOf};
+ghost use Rattle.flow.specs.Answer.{openingNumber, openingName, foundOf};
 ghost use Rattle.rules.specs.Block.{endsBefore};
 ghost use Rattle.rules.specs.Scan.{found, foundBlock};
 ghost use Rattle.rules.proofs.Cut.{lineFrom};
 ghost use Rattle.flow.specs.BlockMachine.{blankLineBefore, continuationStartOf};
 ghost use Rattle.rules.proofs.LineLaws.{contentFrom};
-ghost use Rattle.flow.specs.OpenMachine.{selfClosingOf, completeOf, tagNameOf, tagCloseStartOf, commentOpenOf, declarationOpenOf, openOf, Names, Unnamed, NamesBasic};
+ghost use Rattle.flow.specs.OpenMachine.{selfClosingOf, completesOf, completeOf, tagNameOf, tagCloseStartOf, commentOpenOf, declarationOpenOf, openOf, Names, Unnamed, NamesBasic};
 
-use crate::partial_non_lazy_continuation::{flag_at, is_lazy, next_number};
+use crate::block::{Block, Opening};
+use crate::partial_non_lazy_continuation::{flag_at, is_interrupt, is_lazy, next_number};
 use crate::partial_space_or_tab::inside;
-use crate::scan::{Block, Found};
 use crate::tokenizer::{State, StateName, run as run_complete};
 use lexical::byte::{
     is_attribute_name_byte, is_letter, is_line_ending_byte, is_name_break, is_name_start, is_quote,
     is_space_or_tab, is_tag_break, is_value_end, is_value_excluded, is_whitespace, name_end, peek,
 };
 use lexical::constant::{
-    HTML_CDATA_SIZE, HTML_RAW_SIZE_MAX, NO_NAME, block_place, cdata_letters, raw_place,
+    HTML_CDATA_SIZE, HTML_RAW_SIZE_MAX, TAB_SIZE, block_place, cdata_letters, raw_place,
 };
 use lexical::line::{is_blank, line_end, mark_or_line_end, next_line};
 use lexical::slice::from_indices;
 use rules::Rules;
+use std::error::Error;
+use std::fmt;
 
 // In a closing tag, behind its name.
 //
@@ -201,42 +205,61 @@ pub(crate) fn complete_after(b: u8) -> State
     }
 }
 
-// The kinds of blocks.
-#[derive(Clone, Copy)]
+// The kinds of blocks, with their numbers.
+#[derive(Clone, Copy, Debug, PartialEq, Eq)]
 pub enum Kind {
-    Raw,
-    Comment,
-    Instruction,
-    Declaration,
-    Cdata,
-    Basic,
-    Complete,
+    Raw = 1,
+    Comment = 2,
+    Instruction = 3,
+    Declaration = 4,
+    Cdata = 5,
+    Basic = 6,
+    Complete = 7,
 }
 
-// 01's number of a kind.
-pub fn kind_number(kind: Kind) -> u8
-    ensures { result ≡ kindNumber kind }
-{
-    match kind {
-        Kind::Raw => 1,
-        Kind::Comment => 2,
-        Kind::Instruction => 3,
-        Kind::Declaration => 4,
-        Kind::Cdata => 5,
-        Kind::Basic => 6,
-        Kind::Complete => 7,
+impl From<Kind> for u8 {
+    ghost from_gives = { λ kind number. number ≡ kindNumber kind };
+
+    fn from(kind: Kind) -> u8 {
+        kind as u8
     }
 }
 
-// What a line opens, and the place of its name in the list of that kind.
-#[derive(Clone, Copy)]
-pub enum Opening {
-    Shut,
-    Opens { kind: Kind, name: u8 },
+// A number that is no kind's.
+#[derive(Clone, Copy, Debug, PartialEq, Eq)]
+pub struct UnknownKind {
+    pub number: u8,
+}
+
+impl fmt::Display for UnknownKind {
+    fn fmt<W: fmt::Write>(&self, f: &mut fmt::Formatter<W>) -> fmt::Result {
+        write!(f, "no kind has the number {}", self.number)
+    }
+}
+
+impl Error for UnknownKind {}
+
+impl TryFrom<u8> for Kind {
+    type Error = UnknownKind;
+
+    ghost try_from_gives = { λ number result. (kind : Kind) → (result ≡ Ok kind ↔ kindNumber kind ≡ number) };
+
+    fn try_from(number: u8) -> Result<Kind, UnknownKind> {
+        match number {
+            1 => Ok(Kind::Raw),
+            2 => Ok(Kind::Comment),
+            3 => Ok(Kind::Instruction),
+            4 => Ok(Kind::Declaration),
+            5 => Ok(Kind::Cdata),
+            6 => Ok(Kind::Basic),
+            7 => Ok(Kind::Complete),
+            _ => Err(UnknownKind { number }),
+        }
+    }
 }
 
 // Where a line of kinds 2 to 5 stands on the way to its closer.
-#[derive(Clone, Copy)]
+#[derive(Clone, Copy, Debug, PartialEq, Eq)]
 pub enum ContinuationName {
     Continuation,
     ContinuationCommentInside,
@@ -253,30 +276,12 @@ pub enum ContinuationName {
 fn continuation(kind: Kind, b: u8) -> ContinuationName
     ensures { result ≡ continuationOf kind b }
 {
-    match kind {
-        Kind::Comment => if b == b'-' {
-            ContinuationName::ContinuationCommentInside
-        } else {
-            ContinuationName::Continuation
-        },
-        Kind::Instruction => if b == b'?' {
-            ContinuationName::ContinuationDeclarationInside
-        } else {
-            ContinuationName::Continuation
-        },
-        Kind::Declaration => if b == b'>' {
-            ContinuationName::ContinuationClose
-        } else {
-            ContinuationName::Continuation
-        },
-        Kind::Cdata => if b == b']' {
-            ContinuationName::ContinuationCdataInside
-        } else {
-            ContinuationName::Continuation
-        },
-        Kind::Raw => ContinuationName::Continuation,
-        Kind::Basic => ContinuationName::Continuation,
-        Kind::Complete => ContinuationName::Continuation,
+    match (kind, b) {
+        (Kind::Comment, b'-') => ContinuationName::ContinuationCommentInside,
+        (Kind::Instruction, b'?') => ContinuationName::ContinuationDeclarationInside,
+        (Kind::Declaration, b'>') => ContinuationName::ContinuationClose,
+        (Kind::Cdata, b']') => ContinuationName::ContinuationCdataInside,
+        _ => ContinuationName::Continuation,
     }
 }
 
@@ -317,11 +322,7 @@ fn stays_before_end(rules: Rules, kind: Kind, b: u8) -> bool
     match kind {
         Kind::Comment => b == b'-',
         Kind::Cdata => (b == b']') & !rules.f1,
-        Kind::Raw => false,
-        Kind::Instruction => false,
-        Kind::Declaration => false,
-        Kind::Basic => false,
-        Kind::Complete => false,
+        _ => false,
     }
 }
 
@@ -380,26 +381,14 @@ pub fn continuation_step(
 pub fn is_close(name: ContinuationName) -> bool
     ensures { result ≡ isClose name }
 {
-    match name {
-        ContinuationName::Continuation => false,
-        ContinuationName::ContinuationCommentInside => false,
-        ContinuationName::ContinuationCdataInside => false,
-        ContinuationName::ContinuationDeclarationInside => false,
-        ContinuationName::ContinuationClose => true,
-    }
+    name == ContinuationName::ContinuationClose
 }
 
 // Whether the last byte was not of a closer.
 fn is_continuation(name: ContinuationName) -> bool
     ensures { result ≡ isContinuation name }
 {
-    match name {
-        ContinuationName::Continuation => true,
-        ContinuationName::ContinuationCommentInside => false,
-        ContinuationName::ContinuationCdataInside => false,
-        ContinuationName::ContinuationDeclarationInside => false,
-        ContinuationName::ContinuationClose => false,
-    }
+    name == ContinuationName::Continuation
 }
 
 // The first byte of the closer of kinds 2 to 5; LF for the others.
@@ -411,9 +400,7 @@ fn closer_start(kind: Kind) -> u8
         Kind::Instruction => b'?',
         Kind::Declaration => b'>',
         Kind::Cdata => b']',
-        Kind::Raw => b'\n',
-        Kind::Basic => b'\n',
-        Kind::Complete => b'\n',
+        Kind::Raw | Kind::Basic | Kind::Complete => b'\n',
     }
 }
 
@@ -426,9 +413,7 @@ fn closer_length(kind: Kind) -> usize
         Kind::Instruction => 2,
         Kind::Declaration => 1,
         Kind::Cdata => 3,
-        Kind::Raw => 0,
-        Kind::Basic => 0,
-        Kind::Complete => 0,
+        Kind::Raw | Kind::Basic | Kind::Complete => 0,
     }
 }
 
@@ -460,19 +445,16 @@ fn continuation_raw_end_tag(line: &[u8], start: usize, at: usize, allowed: usize
     requires { start ≤ at }
     ensures { result ≡ rawEndOf allowed (drop start line.now) (at - start) }
 {
-    if at >= line.len() {
-        return false;
+    match peek(line, at) {
+        Some(b'>') => raw_place(from_indices(line, start, at)).is_some(),
+        Some(b) if is_letter(b) && allowed > 0 => continuation_raw_end_tag(
+            line,
+            start,
+            at + 1,
+            allowed - 1,
+        ),
+        _ => false,
     }
-    let b = line[at];
-    if b == b'>' {
-        return raw_place(from_indices(line, start, at)) != NO_NAME;
-    }
-    if is_letter(b) {
-        if allowed > 0 {
-            return continuation_raw_end_tag(line, start, at + 1, allowed - 1);
-        }
-    }
-    false
 }
 
 // After `<` in a raw block: whether a raw end tag stands there.
@@ -483,18 +465,9 @@ fn continuation_raw_tag_open(line: &[u8], at: usize) -> bool
     requires { at < length line.now }
     ensures { result ≡ isRawEnd (drop at line.now) }
 {
-    if line[at] != b'<' {
-        return false;
-    }
-    let slash = at + 1;
-    if slash >= line.len() {
-        return false;
-    }
-    if line[slash] != b'/' {
-        return false;
-    }
-    let name = slash + 1;
-    continuation_raw_end_tag(line, name, name, HTML_RAW_SIZE_MAX)
+    line[at] == b'<'
+        && peek(line, at + 1) == Some(b'/')
+        && continuation_raw_end_tag(line, at + 2, at + 2, HTML_RAW_SIZE_MAX)
 }
 
 // Where a raw end tag begins in a line of a raw block; where it has none, the line's end.
@@ -517,12 +490,12 @@ pub fn before_closer(rules: Rules, kind: Kind, line: &[u8]) -> usize
 {
     match kind {
         Kind::Raw => find_raw_end_tag(line),
+        // An arm for each of the four: the compiler then makes the search for that kind alone, which is faster.
         Kind::Comment => find_closer(rules, kind, line),
         Kind::Instruction => find_closer(rules, kind, line),
         Kind::Declaration => find_closer(rules, kind, line),
         Kind::Cdata => find_closer(rules, kind, line),
-        Kind::Basic => line.len(),
-        Kind::Complete => line.len(),
+        Kind::Basic | Kind::Complete => line.len(),
     }
 }
 
@@ -537,96 +510,97 @@ pub fn closes_line(rules: Rules, kind: Kind, line: &[u8]) -> bool
 fn may_start(rules: Rules, flag: u8) -> bool
     ensures { result ≡ mayStart rules flag }
 {
-    !((flag == 2) | (flag == 3)) | (rules.f6 & ((flag == 1) | (flag == 3)))
+    !is_interrupt(flag) | (rules.f6 & is_lazy(flag))
 }
 
-// After a tag's name that is neither raw nor a block name: a complete tag that fills the line. F3: raw names before a direct `/` too.
-fn complete(rules: Rules, line: &[u8], at: usize, closing: bool, raw: bool, flag: u8) -> Opening
+// Whether what follows a tag's name completes the tag and fills the line. F3: raw names before a direct `/` too.
+fn completes(rules: Rules, line: &[u8], at: usize, closing: bool, raw: bool) -> bool
+    ensures { result ≡ completesOf rules closing raw (drop at line.now) }
+{
+    if closing {
+        run_complete(rules, line, at, StateName::CompleteClosingTagAfter)
+    } else {
+        (rules.f3 | !raw)
+            && run_complete(
+                rules,
+                line,
+                at,
+                StateName::CompleteAttributeValueQuotedAfter,
+            )
+    }
+}
+
+// After a tag's name that is neither raw nor a block name: a complete tag.
+#[tactic(auto, unfolding(crate::specs::OpenMachine::completeOf))]
+fn complete(
+    rules: Rules,
+    line: &[u8],
+    at: usize,
+    closing: bool,
+    raw: bool,
+    flag: u8,
+) -> Option<Opening>
     ensures kind { openingNumber result ≡ completeOf rules flag closing raw (drop at line.now) }
     ensures unnamed { Unnamed result }
 {
-    if !may_start(rules, flag) {
-        return Opening::Shut;
+    if may_start(rules, flag) && completes(rules, line, at, closing, raw) {
+        return Some(Opening {
+            kind: Kind::Complete,
+            name: None,
+        });
     }
-    if closing {
-        if run_complete(rules, line, at, StateName::CompleteClosingTagAfter) {
-            return Opening::Opens {
-                kind: Kind::Complete,
-                name: NO_NAME,
-            };
-        }
-        return Opening::Shut;
-    }
-    if rules.f3 | !raw {
-        if run_complete(
-            rules,
-            line,
-            at,
-            StateName::CompleteAttributeValueQuotedAfter,
-        ) {
-            return Opening::Opens {
-                kind: Kind::Complete,
-                name: NO_NAME,
-            };
-        }
-    }
-    Opening::Shut
+    None
 }
 
 // After a block name and `/`: only `>` goes on.
 //
 //     <div/>
 //          ^
-fn basic_self_closing(line: &[u8], at: usize, name: u8) -> Opening
+fn basic_self_closing(line: &[u8], at: usize, name: Option<u8>) -> Option<Opening>
+    requires { isPlace name ≡ true }
     ensures kind { openingNumber result ≡ selfClosingOf (drop at line.now) }
     ensures names_basic { NamesBasic result name }
 {
-    if at >= line.len() {
-        return Opening::Shut;
-    }
-    if line[at] != b'/' {
-        return Opening::Shut;
-    }
-    if peek(line, at + 1) == 62 {
-        return Opening::Opens {
+    if peek(line, at) == Some(b'/') && peek(line, at + 1) == Some(b'>') {
+        return Some(Opening {
             kind: Kind::Basic,
             name,
-        };
+        });
     }
-    Opening::Shut
+    None
 }
 
 // In a tag's name, which begins at an index: what the name opens.
 //
 //     <ab>
 //      ^^
-fn tag_name(rules: Rules, line: &[u8], at: usize, closing: bool, flag: u8) -> Opening
+fn tag_name(rules: Rules, line: &[u8], at: usize, closing: bool, flag: u8) -> Option<Opening>
     ensures kind { openingNumber result ≡ tagNameOf rules flag closing (tagNameIn (drop at line.now)) (afterName (drop at line.now)) }
     ensures names { Names result (tagNameIn (drop at line.now)) }
 {
     let end = name_end(line, at);
     if !is_name_break(line, end) {
-        return Opening::Shut;
+        return None;
     }
     let name = from_indices(line, at, end);
     let raw = raw_place(name);
-    let is_raw = raw != NO_NAME;
-    let slash = peek(line, end) == 47;
+    let is_raw = raw.is_some();
+    let slash = peek(line, end) == Some(b'/');
     if is_raw & (!closing & !slash) {
-        return Opening::Opens {
+        return Some(Opening {
             kind: Kind::Raw,
             name: raw,
-        };
+        });
     }
     let basic = block_place(name);
-    if basic != NO_NAME {
+    if basic.is_some() {
         if slash {
             return basic_self_closing(line, end, basic);
         }
-        return Opening::Opens {
+        return Some(Opening {
             kind: Kind::Basic,
             name: basic,
-        };
+        });
     }
     complete(rules, line, end, closing, is_raw, flag)
 }
@@ -635,17 +609,14 @@ fn tag_name(rules: Rules, line: &[u8], at: usize, closing: bool, flag: u8) -> Op
 //
 //     </x>
 //       ^
-fn tag_close_start(rules: Rules, line: &[u8], at: usize, flag: u8) -> Opening
+fn tag_close_start(rules: Rules, line: &[u8], at: usize, flag: u8) -> Option<Opening>
     ensures kind { openingNumber result ≡ tagCloseStartOf rules flag (drop at line.now) }
     ensures names { Names result (tagNameIn (drop at line.now)) }
 {
-    if at >= line.len() {
-        return Opening::Shut;
+    match peek(line, at) {
+        Some(b) if is_letter(b) => tag_name(rules, line, at, true, flag),
+        _ => None,
     }
-    if is_letter(line[at]) {
-        return tag_name(rules, line, at, true, flag);
-    }
-    Opening::Shut
 }
 
 // After `<![`: whether the rest of `CDATA[` follows.
@@ -662,49 +633,43 @@ fn cdata_open_inside(line: &[u8], at: usize) -> bool
 //
 //     <!--xxx-->
 //        ^
-fn comment_open_inside(line: &[u8], at: usize) -> Opening
+fn comment_open_inside(line: &[u8], at: usize) -> Option<Opening>
     ensures kind { openingNumber result ≡ commentOpenOf (drop at line.now) }
     ensures unnamed { Unnamed result }
 {
-    if peek(line, at) == 45 {
-        return Opening::Opens {
+    if peek(line, at) == Some(b'-') {
+        return Some(Opening {
             kind: Kind::Comment,
-            name: NO_NAME,
-        };
+            name: None,
+        });
     }
-    Opening::Shut
+    None
 }
 
 // After `<!`: a comment, a declaration or CDATA.
 //
 //     <!doctype>
 //       ^
-fn declaration_open(line: &[u8], at: usize) -> Opening
+fn declaration_open(line: &[u8], at: usize) -> Option<Opening>
     ensures kind { openingNumber result ≡ declarationOpenOf (drop at line.now) }
     ensures unnamed { Unnamed result }
 {
-    if at >= line.len() {
-        return Opening::Shut;
-    }
-    let b = line[at];
-    if b == b'-' {
-        return comment_open_inside(line, at + 1);
-    }
-    if is_letter(b) {
-        return Opening::Opens {
-            kind: Kind::Declaration,
-            name: NO_NAME,
-        };
-    }
-    if b == b'[' {
-        if cdata_open_inside(line, at + 1) {
-            return Opening::Opens {
+    match peek(line, at) {
+        Some(b'-') => comment_open_inside(line, at + 1),
+        Some(b'[') => if cdata_open_inside(line, at + 1) {
+            Some(Opening {
                 kind: Kind::Cdata,
-                name: NO_NAME,
-            };
-        }
+                name: None,
+            })
+        } else {
+            None
+        },
+        Some(b) if is_letter(b) => Some(Opening {
+            kind: Kind::Declaration,
+            name: None,
+        }),
+        _ => None,
     }
-    Opening::Shut
 }
 
 // After `<`: a tag name, or what opens something else.
@@ -715,60 +680,47 @@ fn declaration_open(line: &[u8], at: usize) -> Opening
 //      ^
 //     <!--xxx-->
 //      ^
-fn open(rules: Rules, line: &[u8], at: usize, flag: u8) -> Opening
+fn open(rules: Rules, line: &[u8], at: usize, flag: u8) -> Option<Opening>
     ensures kind { openingNumber result ≡ openOf rules flag (drop at line.now) }
     ensures names { Names result (tagName (byte "<" ∷ drop at line.now)) }
 {
-    if at >= line.len() {
-        return Opening::Shut;
-    }
-    let b = line[at];
-    if b == b'!' {
-        return declaration_open(line, at + 1);
-    }
-    if b == b'/' {
-        return tag_close_start(rules, line, at + 1, flag);
-    }
-    if b == b'?' {
-        return Opening::Opens {
+    match peek(line, at) {
+        Some(b'!') => declaration_open(line, at + 1),
+        Some(b'/') => tag_close_start(rules, line, at + 1, flag),
+        Some(b'?') => Some(Opening {
             kind: Kind::Instruction,
-            name: NO_NAME,
-        };
+            name: None,
+        }),
+        Some(b) if is_letter(b) => tag_name(rules, line, at, false, flag),
+        _ => None,
     }
-    if is_letter(b) {
-        return tag_name(rules, line, at, false, flag);
-    }
-    Opening::Shut
 }
 
 // After the indentation: `<`.
 //
 //       <x>
 //       ^
-fn before(rules: Rules, line: &[u8], at: usize, flag: u8) -> Opening
+fn before(rules: Rules, line: &[u8], at: usize, flag: u8) -> Option<Opening>
     ensures kind { openingNumber result ≡ kindAt rules flag (drop at line.now) }
     ensures names { Names result (tagName (drop at line.now)) }
 {
-    if at >= line.len() {
-        return Opening::Shut;
+    if peek(line, at) == Some(b'<') {
+        return open(rules, line, at + 1, flag);
     }
-    if line[at] != b'<' {
-        return Opening::Shut;
-    }
-    open(rules, line, at + 1, flag)
+    None
 }
 
 // Start of a line: the kind of block that it opens, with the place of its name.
 //
 //       <x>
 //     ^
-pub(crate) fn start(rules: Rules, line: &[u8], flag: u8) -> Opening
+pub(crate) fn start(rules: Rules, line: &[u8], flag: u8) -> Option<Opening>
     ensures kind { openingNumber result ≡ kindOf rules (lineOf flag [] line.now) }
     ensures name { openingName result ≡ placeOf (openingNumber result) (lineOf flag [] line.now) }
 {
     let indent = inside(line, 0);
-    if indent > 3 {
-        return Opening::Shut;
+    if indent >= TAB_SIZE {
+        return None;
     }
     before(rules, line, indent, flag)
 }
@@ -777,22 +729,15 @@ pub(crate) fn start(rules: Rules, line: &[u8], flag: u8) -> Opening
 //
 //     <!---->
 //            ^
-pub(crate) fn continuation_after(
-    kind: Kind,
-    name: u8,
-    stop: usize,
-    closed: bool,
-    closer: usize,
-) -> Block
-    ensures { blockAnswerOf result ≡ foundBlock (found (kindNumber kind) name stop closed closer) }
+pub(crate) fn continuation_after(opening: Opening, stop: usize, closer: Option<usize>) -> Block
+    ensures { foundOf (Some result) ≡ foundBlock (found (openingNumber (Some opening)) (openingName (Some opening)) stop (is_some closer) (unwrap_or closer stop)) }
 {
-    Block::Found(Found {
-        kind,
-        name,
+    Block {
+        kind: opening.kind,
+        name: opening.name,
         stop,
-        closed,
         closer,
-    })
+    }
 }
 
 // Before a line of kind 6 or 7: whether it is blank.
@@ -802,15 +747,7 @@ pub(crate) fn continuation_after(
 fn blank_line_before(kind: Kind, line: &[u8]) -> bool
     ensures { result ≡ blankLineBefore (kindNumber kind) line.now }
 {
-    match kind {
-        Kind::Raw => false,
-        Kind::Comment => false,
-        Kind::Instruction => false,
-        Kind::Declaration => false,
-        Kind::Cdata => false,
-        Kind::Basic => is_blank(line, 0),
-        Kind::Complete => is_blank(line, 0),
-    }
+    matches!(kind, Kind::Basic | Kind::Complete) && is_blank(line, 0)
 }
 
 // Whether a block ends in front of a line.
@@ -849,32 +786,31 @@ fn continuation_before(bulletin: &[u8], from: usize) -> &[u8]
 //     asd
 pub(crate) fn continuation_start(
     rules: Rules,
-    kind: Kind,
-    name: u8,
+    opening: Opening,
     bulletin: &[u8],
     flags: &[u8],
     index: usize,
     line: usize,
 ) -> Block
-    ensures { blockAnswerOf result ≡ continuationStartOf rules (kindNumber kind) name bulletin.now flags.now index line }
+    ensures { foundOf (Some result) ≡ continuationStartOf rules (openingNumber (Some opening)) (openingName (Some opening)) bulletin.now flags.now index line }
 {
     let mut stop = index;
     let mut number = line;
     while stop < bulletin.len() {
         let from = continuation_start_non_lazy(bulletin, stop);
         if from == stop {
-            return continuation_after(kind, name, stop, false, stop);
+            return continuation_after(opening, stop, None);
         }
         let content = continuation_before(bulletin, from);
-        if ends_before(kind, flag_at(flags, number), content) {
-            return continuation_after(kind, name, stop, false, stop);
+        if ends_before(opening.kind, flag_at(flags, number), content) {
+            return continuation_after(opening, stop, None);
         }
         stop = from + content.len();
-        let at = before_closer(rules, kind, content);
+        let at = before_closer(rules, opening.kind, content);
         if at < content.len() {
-            return continuation_after(kind, name, stop, true, from + at);
+            return continuation_after(opening, stop, Some(from + at));
         }
         number = next_number(flags, number);
     }
-    continuation_after(kind, name, stop, false, stop)
+    continuation_after(opening, stop, None)
 }

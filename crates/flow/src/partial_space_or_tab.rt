@@ -2,6 +2,8 @@
 ghost use Rattle.std.specs.Prelude.{◌≡◌, ◌+◌, drop};
 ghost use Rattle.rules.specs.Block.{indentation};
 
+use lexical::slice::from_indices;
+
 // Past the spaces at an index.
 //
 //       <div>
@@ -9,12 +11,9 @@ ghost use Rattle.rules.specs.Block.{indentation};
 pub fn inside(line: &[u8], index: usize) -> usize
     ensures { result ≡ index + indentation (drop index line.now) }
 {
-    let mut i = index;
-    while i < line.len() {
-        if line[i] != b' ' {
-            return i;
-        }
-        i += 1;
-    }
-    i
+    let spaces = from_indices(line, index, line.len())
+        .iter()
+        .take_while(|b| **b == b' ')
+        .count();
+    index + spaces
 }

@@ -3,9 +3,10 @@ ghost use Rattle.std.specs.Prelude.{◌≡◌, drop};
 ghost use Rattle.flow.specs.CompleteMachine.{stepOf, accepts, runOf};
 
 use crate::html_flow;
+use lexical::slice::from_indices;
 use rules::Rules;
 
-#[derive(Clone, Copy)]
+#[derive(Clone, Copy, Debug, PartialEq, Eq)]
 pub enum StateName {
     CompleteClosingTagAfter,
     CompleteAttributeNameBefore,
@@ -21,7 +22,7 @@ pub enum StateName {
 }
 
 // What a state does with a byte: take it and go on with a state, end the line there, or not take it.
-#[derive(Clone, Copy)]
+#[derive(Clone, Copy, Debug, PartialEq, Eq)]
 pub enum State {
     Next(StateName),
     Ok,
@@ -59,18 +60,7 @@ fn step(rules: Rules, state: StateName, b: u8) -> State
 fn may_end(state: StateName) -> bool
     ensures { result ≡ accepts state }
 {
-    match state {
-        StateName::CompleteClosingTagAfter => false,
-        StateName::CompleteAttributeNameBefore => false,
-        StateName::CompleteAttributeName => false,
-        StateName::CompleteAttributeNameAfter => false,
-        StateName::CompleteAttributeValueBefore => false,
-        StateName::CompleteAttributeValueQuoted(_) => false,
-        StateName::CompleteAttributeValueQuotedAfter => false,
-        StateName::CompleteAttributeValueUnquoted => false,
-        StateName::CompleteEnd => false,
-        StateName::CompleteAfter => true,
-    }
+    state == StateName::CompleteAfter
 }
 
 // From a state at an index to the end of the line.
@@ -78,20 +68,12 @@ pub(crate) fn run(rules: Rules, line: &[u8], from: usize, start: StateName) -> b
     ensures { result ≡ runOf rules start (drop from line.now) }
 {
     let mut state = start;
-    let mut index = from;
-    while index < line.len() {
-        match step(rules, state, line[index]) {
-            State::Next(s) => {
-                state = s;
-            }
-            State::Ok => {
-                return true;
-            }
-            State::Nok => {
-                return false;
-            }
+    for b in from_indices(line, from, line.len()) {
+        match step(rules, state, *b) {
+            State::Next(next) => state = next,
+            State::Ok => return true,
+            State::Nok => return false,
         }
-        index += 1;
     }
     may_end(state)
 }

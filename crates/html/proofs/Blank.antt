@@ -1,17 +1,11 @@
 -- Refusal 6 at an index of a text.
-use mathlib.Core.Path.{◌≡◌, ◌∙◌, ap}
-use mathlib.Core.Bool.{true, false, not}
-use mathlib.Core.List.{List, ◌∷◌}
-use Prim.Native.Nat.{ℕ, ◌+◌}
-use lib.Dec.{eqb}
-use lib.ListN.{drop}
+use Rattle.std.proofs.Common.{◌≡◌, ◌∙◌, ap, true, false, not, List, ◌∷◌, ℕ, ◌+◌, eqb, drop, drop-drop}
+use Rattle.std.proofs.lemmas.List.{drop-drop}
+use Rattle.std.proofs.lemmas.Bool.{or_parts}
 use borrow.Author.Tests.{not-true}
-use lib.Seq.{drop-drop}
 use Rattle.lexical.specs.Text.{byte, first, run}
 use Rattle.lexical.specs.Byte.{isSpaceOrTab, isLineEndingByte}
 use Rattle.lexical.specs.Line.{endsLine, lineLength}
-use Rattle.lexical.proofs.Suffix.{suffix-next}
-use Rattle.lexical.proofs.Cases.{or-left, or-right}
 use Rattle.rules.specs.Search.{past, somewhere}
 use Rattle.rules.specs.Refusal.{blankFollows}
 use Rattle.rules.proofs.Past.{past-run, somewhere-behind}
@@ -19,7 +13,7 @@ use Rattle.rules.proofs.Past.{past-run, somewhere-behind}
 module _ (text : List ℕ) (i : ℕ) where
   -- the byte behind the spaces and tabs behind the index
   past-at : past isSpaceOrTab (drop 1 (drop i text)) ≡ drop (i + 1 + run isSpaceOrTab (drop (i + 1) text)) text
-  past-at = ap (past isSpaceOrTab) (suffix-next text i) ∙ past-run isSpaceOrTab (drop (i + 1) text) ∙ drop-drop (run isSpaceOrTab (drop (i + 1) text)) (i + 1) text
+  past-at = ap (past isSpaceOrTab) (drop-drop 1 i text) ∙ past-run isSpaceOrTab (drop (i + 1) text) ∙ drop-drop (run isSpaceOrTab (drop (i + 1) text)) (i + 1) text
 
   pub blank-in : endsLine (drop i text) ≡ true → isLineEndingByte (first (drop (i + 1 + run isSpaceOrTab (drop (i + 1) text)) text)) ≡ blankFollows (drop i text)
   unfolding blankFollows
@@ -33,7 +27,7 @@ module _ (text : List ℕ) (i : ℕ) where
 content-no : (x : ℕ) (xs : List ℕ) → not (isLineEndingByte x) ≡ true → blankFollows (x ∷ xs) ≡ false
 unfolding blankFollows endsLine
 content-no x xs h =
-    let n = not-true _ h in rw (or-left (eqb x (byte "\n")) (eqb x (byte "\r")) n, or-right (eqb x (byte "\n")) (eqb x (byte "\r")) n)
+    let n = not-true _ h in rw ((or_parts (eqb x (byte "\n")) (eqb x (byte "\r")) n).0, (or_parts (eqb x (byte "\n")) (eqb x (byte "\r")) n).1)
 
 pub blank-behind : (text : List ℕ) (i j : ℕ) → j ≡ i + lineLength (drop i text) → somewhere blankFollows (drop i text) ≡ somewhere blankFollows (drop j text)
 blank-behind = somewhere-behind (λ b. not (isLineEndingByte b)) blankFollows content-no

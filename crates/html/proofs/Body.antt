@@ -1,15 +1,9 @@
 -- The bytes that leave a state as it is: the run over a text is the same behind them.
-use mathlib.Core.Path.{◌≡◌, refl, sym, ◌∙◌, ap}
-use mathlib.Core.Bool.{true, false}
-use mathlib.Core.List.{List, ◌∷◌}
-use Prim.Native.Nat.{ℕ, ◌+◌}
-use native.Mathlib.Omega.{arith}
-use lib.Dec.{eqb}
-use lib.ListN.{drop}
+use Rattle.std.proofs.lemmas.Bool.{or_parts}
+use Rattle.std.proofs.Common.{Option, Some, None, MatchOption, ◌≡◌, sym, ◌∙◌, ap, true, false, List, ◌∷◌, ℕ, ◌+◌, arith, eqb, drop}
 use borrow.Author.Tests.{not-true}
 use Rattle.lexical.specs.Byte.{isLineEndingByte}
 use Rattle.lexical.specs.Line.{isInner}
-use Rattle.lexical.proofs.Cases.{split, clash, or-left}
 use Rattle.lexical.proofs.Run.{behind-at}
 use Rattle.rules.specs.declared.Rules.{Rules}
 use Rattle.html.specs.TextMachine.{bodyMark, bodyLength, stepOf, runOf, commentOf, cdataOf, declarationOf, instructionOf, valueQuotedOf}
@@ -18,43 +12,47 @@ use Rattle.html.specs.declared.tokenizer.StateName.TheVariants.{Start, Open, Dec
 use Rattle.html.specs.declared.tokenizer.State.TheVariants.{Next}
 
 -- a byte that is not the mark
-stays : (ρ : Rules) (st : StateName) (k b : ℕ) → eqb (bodyMark st) 0 ≡ false → eqb b (bodyMark st) ≡ false → stepOf ρ st k b ≡ Next st k
+abbrev Stays : Rules → StateName → Option ℕ → Type 0
+Stays ρ st o = MatchOption o Unit (λ m. (k b : ℕ) → eqb b m ≡ false → stepOf ρ st k b ≡ Next st k)
+
+stays : (ρ : Rules) (st : StateName) → Stays ρ st (bodyMark st)
 unfolding commentOf cdataOf declarationOf instructionOf valueQuotedOf
-stays ρ Start k b h e = clash _ refl h
-stays ρ Open k b h e = clash _ refl h
-stays ρ DeclarationOpen k b h e = clash _ refl h
-stays ρ CommentOpenInside k b h e = clash _ refl h
-stays ρ Comment k b h e = rw e
-stays ρ CommentClose k b h e = clash _ refl h
-stays ρ CommentEnd k b h e = clash _ refl h
-stays ρ CdataOpenInside k b h e = clash _ refl h
-stays ρ Cdata k b h e = rw e
-stays ρ CdataClose k b h e = clash _ refl h
-stays ρ CdataEnd k b h e = clash _ refl h
-stays ρ Declaration k b h e = rw e
-stays ρ Instruction k b h e = rw e
-stays ρ InstructionClose k b h e = clash _ refl h
-stays ρ TagCloseStart k b h e = clash _ refl h
-stays ρ TagClose k b h e = clash _ refl h
-stays ρ TagCloseBetween k b h e = clash _ refl h
-stays ρ TagOpen k b h e = clash _ refl h
-stays ρ TagOpenBetween k b h e = clash _ refl h
-stays ρ TagOpenAttributeName k b h e = clash _ refl h
-stays ρ TagOpenAttributeNameAfter k b h e = clash _ refl h
-stays ρ TagOpenAttributeValueBefore k b h e = clash _ refl h
-stays ρ (TagOpenAttributeValueQuoted m) k b h e = rw e
-stays ρ TagOpenAttributeValueQuotedAfter k b h e = clash _ refl h
-stays ρ TagOpenAttributeValueUnquoted k b h e = clash _ refl h
-stays ρ End k b h e = clash _ refl h
+stays ρ Start = tt
+stays ρ Open = tt
+stays ρ DeclarationOpen = tt
+stays ρ CommentOpenInside = tt
+stays ρ Comment = λ k b e. rw e
+stays ρ CommentClose = tt
+stays ρ CommentEnd = tt
+stays ρ CdataOpenInside = tt
+stays ρ Cdata = λ k b e. rw e
+stays ρ CdataClose = tt
+stays ρ CdataEnd = tt
+stays ρ Declaration = λ k b e. rw e
+stays ρ Instruction = λ k b e. rw e
+stays ρ InstructionClose = tt
+stays ρ TagCloseStart = tt
+stays ρ TagClose = tt
+stays ρ TagCloseBetween = tt
+stays ρ TagOpen = tt
+stays ρ TagOpenBetween = tt
+stays ρ TagOpenAttributeName = tt
+stays ρ TagOpenAttributeNameAfter = tt
+stays ρ TagOpenAttributeValueBefore = tt
+stays ρ (TagOpenAttributeValueQuoted m) = λ k b e. rw e
+stays ρ TagOpenAttributeValueQuotedAfter = tt
+stays ρ TagOpenAttributeValueUnquoted = tt
+stays ρ End = tt
 
 -- the run, behind such bytes
 module _ (ρ : Rules) (st : StateName) (k : ℕ) where
-  passed : eqb (bodyMark st) 0 ≡ false → (x : ℕ) (xs : List ℕ) → isInner (bodyMark st) x ≡ true → runOf ρ st k (x ∷ xs) ≡ runOf ρ st k xs
+  passed : (m : ℕ) → Stays ρ st (Some m) → (x : ℕ) (xs : List ℕ) → isInner m x ≡ true → runOf ρ st k (x ∷ xs) ≡ runOf ρ st k xs
   unfolding runOf
-  passed h x xs e = rw (stays ρ st k x h (or-left (eqb x (bodyMark st)) (isLineEndingByte x) (not-true _ e)))
+  passed m h x xs e = rw (h k x (or_parts (eqb x m) (isLineEndingByte x) (not-true _ e)).0)
+
+  behind : (o : Option ℕ) → Stays ρ st o → (s : List ℕ) (i j : ℕ) → j ≡ i + bodyLength o (drop i s) → runOf ρ st k (drop i s) ≡ runOf ρ st k (drop j s)
+  behind None h s i j e = let n : j ≡ i = e ∙ omega arith in ap (λ n. runOf ρ st k (drop n s)) (sym n)
+  behind (Some m) h s i j e = behind-at (isInner m) (runOf ρ st k) (passed m h) s i j e
 
   pub body-behind : (s : List ℕ) (i j : ℕ) → j ≡ i + bodyLength (bodyMark st) (drop i s) → runOf ρ st k (drop i s) ≡ runOf ρ st k (drop j s)
-  body-behind s i j e =
-      split (eqb (bodyMark st) 0)
-      (λ h. let n : j ≡ i = (rw h at e) ∙ omega arith in ap (λ n. runOf ρ st k (drop n s)) (sym n))
-      (λ h. behind-at (isInner (bodyMark st)) (runOf ρ st k) (passed h) s i j (rw h at e))
+  body-behind = behind (bodyMark st) (stays ρ st)

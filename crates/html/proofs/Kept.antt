@@ -1,10 +1,5 @@
 -- The answer of a scan from what the machine reads, with T2 and without.
-use mathlib.Core.Path.{◌≡◌, refl, sym, ◌∙◌, ap}
-use mathlib.Core.Bool.{Bool, true, false}
-use mathlib.Core.List.{List}
-use Prim.Native.Nat.{ℕ, ◌≤◌}
-use native.Mathlib.Omega.{arith}
-use lib.ListN.{length, drop}
+use Rattle.std.proofs.Common.{◌≡◌, refl, sym, ◌∙◌, ap, Bool, true, false, List, ℕ, ◌≤◌, arith, length, drop}
 use Rattle.lexical.specs.Text.{pick}
 use Rattle.lexical.proofs.Cases.{split}
 use Rattle.rules.specs.Search.{choose}

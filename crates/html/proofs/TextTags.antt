@@ -1,16 +1,12 @@
 -- The run in the states of tags leaves what the grammar of tags says. A state that stays at a class of bytes passes the class; what follows a tag name or an
 -- attribute is shown by induction on the number of attributes that the grammar allows, each of which has a byte.
-use mathlib.Core.Path.{◌≡◌, refl, sym, ◌∙◌, ap}
-use mathlib.Core.Bool.{Bool, true, false, ◌||◌, not}
-use mathlib.Core.List.{List, [], ◌∷◌}
-use Prim.Native.Nat.{ℕ, zero, suc, ◌<◌, ◌≤◌}
-use native.Mathlib.Omega.{arith}
-use lib.Dec.{eqb}
-use lib.ListN.{drop, length}
-use borrow.Author.Tests.{eqb-true, not-false, not-true}
+use Rattle.std.proofs.Common.{◌≡◌, refl, sym, ◌∙◌, ap, Bool, true, false, ◌||◌, not, List, [], ◌∷◌, ℕ, zero, suc, ◌<◌, ◌≤◌, arith, eqb, drop, length, eqb-true}
+use Rattle.std.proofs.lemmas.Bool.{or_parts}
+use Rattle.std.proofs.Math.Bool.{or-false}
+use borrow.Author.Tests.{not-false, not-true}
 use Rattle.lexical.specs.Text.{byte, bytes, pick, first}
 use Rattle.lexical.specs.Byte.{isDigit, isTagNameByte, isAttributeNameStart, isAttributeNameByte, isSpaceOrTab, isLineEndingByte, isWhitespace, isQuote, isValueExcluded, isTagBreak, isValueEnd}
-use Rattle.lexical.proofs.Cases.{split, or-left, or-right, or-no}
+use Rattle.lexical.proofs.Cases.{split}
 use Rattle.lexical.proofs.Classes.{name-start-no, break-start-no}
 use Rattle.rules.specs.Search.{choose, begins, past, Left, exactly}
 use Rattle.rules.specs.Tag.{Grammar, inlineTags, tagEnd, pastQuote, specification, startsName, isValueByte, value, values, attribute, attributes}
@@ -83,7 +79,7 @@ module _ (ρ : Rules) (k : ℕ) where
   -- ---- classes
   -- no inline attribute name begins with a digit
   starts-is : (x : ℕ) → startsName g x ≡ isAttributeNameStart x
-  starts-is x = split (isDigit x) (λ d. rw d (or-no (isAttributeNameStart x))) (λ d. rw d (or-no (isAttributeNameStart x)))
+  starts-is x = split (isDigit x) (λ d. rw d (or-false (isAttributeNameStart x))) (λ d. rw d (or-false (isAttributeNameStart x)))
 
   -- ---- what a state does at a byte that is no whitespace
   between-at : (x : ℕ) → isWhitespace x ≡ false → tagOpenBetweenOf k x ≡ pick (eqb x (byte "/")) (Next End k) (pick (isAttributeNameStart x) (Next TagOpenAttributeName k) (endOf x))
@@ -109,8 +105,8 @@ module _ (ρ : Rules) (k : ℕ) where
   after-at x start =
       split (isTagBreak x) (λ t. rw t)
       (λ t.
-      let o = or-right (isWhitespace x) (eqb x (byte "/") || eqb x (byte ">")) t in
-      rw (t, between-at x (or-left (isWhitespace x) (eqb x (byte "/") || eqb x (byte ">")) t), or-left (eqb x (byte "/")) (eqb x (byte ">")) o, start, or-right (eqb x (byte "/")) (eqb x (byte ">")) o))
+      let o = (or_parts (isWhitespace x) (eqb x (byte "/") || eqb x (byte ">")) t).1 in
+      rw (t, between-at x (or_parts (isWhitespace x) (eqb x (byte "/") || eqb x (byte ">")) t).0, (or_parts (eqb x (byte "/")) (eqb x (byte ">")) o).0, start, (or_parts (eqb x (byte "/")) (eqb x (byte ">")) o).1))
 
   after-between : (x : ℕ) (xs : List ℕ) → isAttributeNameStart x ≡ false
       → runOf ρ TagOpenAttributeValueQuotedAfter k (x ∷ xs) ≡ runOf ρ TagOpenBetween k (past isWhitespace (x ∷ xs))
@@ -217,8 +213,8 @@ module _ (ρ : Rules) (k : ℕ) where
   no-break : (x : ℕ) (xs : List ℕ) → isTagBreak x ≡ false → runOf ρ TagOpenAttributeValueQuotedAfter k (x ∷ xs) ≡ carrying k (tagEnd (x ∷ xs))
   unfolding runOf valueQuotedAfterOf tagEnd
   no-break x xs t =
-      let o = or-right (isWhitespace x) (eqb x (byte "/") || eqb x (byte ">")) t in
-      simp (t, or-left (isWhitespace x) (eqb x (byte "/") || eqb x (byte ">")) t, or-left (eqb x (byte "/")) (eqb x (byte ">")) o, or-right (eqb x (byte "/")) (eqb x (byte ">")) o)
+      let o = (or_parts (isWhitespace x) (eqb x (byte "/") || eqb x (byte ">")) t).1 in
+      simp ((or_parts (isWhitespace x) (eqb x (byte "/") || eqb x (byte ">")) t).0, (or_parts (eqb x (byte "/")) (eqb x (byte ">")) o).0, (or_parts (eqb x (byte "/")) (eqb x (byte ">")) o).1)
 
   after-is : (n : ℕ) → After n
   after-is zero s l = absurd (omega arith)
@@ -229,7 +225,7 @@ module _ (ρ : Rules) (k : ℕ) where
       let b = run-alike TagOpenAttributeValueQuotedAfter TagOpenBetween x xs (at-break x t) ∙ between-is n (after-is n) (x ∷ xs) l in
       split (isWhitespace x) (λ sp. b ∙ ap (carrying k) (sym (attributes-spaced n x xs sp)))
       (λ sp. rw (attributes-end n x xs sp) (rw (past-none isWhitespace x xs sp, break-start-no false x t) at b)))
-      (λ t. rw (attributes-end n x xs (or-left (isWhitespace x) (eqb x (byte "/") || eqb x (byte ">")) t)) (no-break x xs t))
+      (λ t. rw (attributes-end n x xs (or_parts (isWhitespace x) (eqb x (byte "/") || eqb x (byte ">")) t).0) (no-break x xs t))
 
   pub open-tag-is : (n : ℕ) (s : List ℕ) → length s < n → runOf ρ TagOpen k s ≡ carrying k (attributes g n (past isTagNameByte s))
   open-tag-is n s l = tag-span s ∙ after-is n (past isTagNameByte s) (omega (arith, past-length isTagNameByte s))

@@ -1,14 +1,23 @@
--- What an answer of the inline scan says, by 01's numbers and values for each case.
-use Rattle.std.specs.Prelude.{ℕ}
+-- What an answer of the inline scan says, as the rules tell it: for each case its values.
+use Rattle.std.specs.Prelude.{ℕ, Option, Some, None, Result, Ok, Err}
+use Rattle.rules.specs.Refusal.{refusalNumber}
 use Rattle.rules.specs.Scan.{InlineAnswer, foundInline, noInline, refusedInline}
+use Rattle.rules.specs.declared.refusal.Refusal.{Refusal}
 use Rattle.html.specs.declared.tokenizer.Inline.{Inline}
-use Rattle.html.specs.declared.tokenizer.Inline.TheVariants.{Found, Missing, Refused}
 
--- found with stop and carry; none with the carry; a refusal with its number and the carry passed in
+-- with a stop: found; without one: none
+abbrev pub stopping : Option ℕ → ℕ → InlineAnswer
+stopping (Some stop) carry = foundInline stop carry
+stopping None carry = noInline carry
+
+-- found with stop and carry, or none with the carry
 abbrev pub inlineOf : Inline → InlineAnswer
-inlineOf (Found stop carry) = foundInline stop carry
-inlineOf (Missing carry) = noInline carry
-inlineOf (Refused refusal carry) = refusedInline refusal carry
+inlineOf a = stopping a.stop a.carry
+
+-- of a scan that may be refused: a refusal with its number and the carry passed in
+abbrev pub inlineScanOf : ℕ → Result Inline Refusal → InlineAnswer
+inlineScanOf carry (Ok a) = inlineOf a
+inlineScanOf carry (Err r) = refusedInline (refusalNumber r) carry
 
 -- the same answer with another carry
 abbrev pub carryingOf : ℕ → InlineAnswer → InlineAnswer

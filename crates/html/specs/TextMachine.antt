@@ -1,6 +1,6 @@
 -- The machine of html_text.rt: what each state does with a byte, and the run over what is left of a text. It need not be believed: no entry's contract
 -- cites it, only those of single steps and of the runs in crates/reader, and proofs/TextMeans.antt shows that the run gives what the rules say.
-use Rattle.std.specs.Prelude.{ℕ, List, [], ◌∷◌, eqb}
+use Rattle.std.specs.Prelude.{ℕ, List, [], ◌∷◌, Option, Some, None, eqb}
 use Rattle.lexical.specs.Text.{byte, pick, run}
 use Rattle.lexical.specs.Line.{isInner}
 use Rattle.lexical.specs.Byte.{isLetter, isTagNameByte, isAttributeNameStart, isAttributeNameByte, isSpaceOrTab, isLineEndingByte, isQuote, isValueExcluded, isTagBreak, isValueEnd}
@@ -143,35 +143,36 @@ unfoldable pub runOf : Rules → StateName → ℕ → List ℕ → Read
 runOf ρ s k [] = lacks k
 runOf ρ s k (x ∷ xs) = follow (stepOf ρ s k x) k xs (λ s' k'. runOf ρ s' k' xs)
 
--- the byte that ends the body of a state; no body: 0
-abbrev pub bodyMark : StateName → ℕ
-bodyMark Start = 0
-bodyMark Open = 0
-bodyMark DeclarationOpen = 0
-bodyMark CommentOpenInside = 0
-bodyMark Comment = byte "-"
-bodyMark CommentClose = 0
-bodyMark CommentEnd = 0
-bodyMark CdataOpenInside = 0
-bodyMark Cdata = byte "]"
-bodyMark CdataClose = 0
-bodyMark CdataEnd = 0
-bodyMark Declaration = byte ">"
-bodyMark Instruction = byte "?"
-bodyMark InstructionClose = 0
-bodyMark TagCloseStart = 0
-bodyMark TagClose = 0
-bodyMark TagCloseBetween = 0
-bodyMark TagOpen = 0
-bodyMark TagOpenBetween = 0
-bodyMark TagOpenAttributeName = 0
-bodyMark TagOpenAttributeNameAfter = 0
-bodyMark TagOpenAttributeValueBefore = 0
-bodyMark (TagOpenAttributeValueQuoted m) = m
-bodyMark TagOpenAttributeValueQuotedAfter = 0
-bodyMark TagOpenAttributeValueUnquoted = 0
-bodyMark End = 0
+-- the byte that ends the body of a state, if it has a body
+abbrev pub bodyMark : StateName → Option ℕ
+bodyMark Start = None
+bodyMark Open = None
+bodyMark DeclarationOpen = None
+bodyMark CommentOpenInside = None
+bodyMark Comment = Some (byte "-")
+bodyMark CommentClose = None
+bodyMark CommentEnd = None
+bodyMark CdataOpenInside = None
+bodyMark Cdata = Some (byte "]")
+bodyMark CdataClose = None
+bodyMark CdataEnd = None
+bodyMark Declaration = Some (byte ">")
+bodyMark Instruction = Some (byte "?")
+bodyMark InstructionClose = None
+bodyMark TagCloseStart = None
+bodyMark TagClose = None
+bodyMark TagCloseBetween = None
+bodyMark TagOpen = None
+bodyMark TagOpenBetween = None
+bodyMark TagOpenAttributeName = None
+bodyMark TagOpenAttributeNameAfter = None
+bodyMark TagOpenAttributeValueBefore = None
+bodyMark (TagOpenAttributeValueQuoted m) = Some m
+bodyMark TagOpenAttributeValueQuotedAfter = None
+bodyMark TagOpenAttributeValueUnquoted = None
+bodyMark End = None
 
 -- how many bytes in front leave a state with such a mark as it is, as far as the line goes
-abbrev pub bodyLength : ℕ → List ℕ → ℕ
-bodyLength m s = pick (eqb m 0) 0 (run (isInner m) s)
+abbrev pub bodyLength : Option ℕ → List ℕ → ℕ
+bodyLength None s = 0
+bodyLength (Some m) s = run (isInner m) s

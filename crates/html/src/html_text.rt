@@ -111,8 +111,7 @@ pub(crate) fn comment(size: u8, b: u8) -> State
     ensures { result ≡ commentOf size b }
 {
     match b {
-        b'\n' => line_ending_before(StateName::Comment, size),
-        b'\r' => line_ending_before(StateName::Comment, size),
+        b'\n' | b'\r' => line_ending_before(StateName::Comment, size),
         b'-' => State::Next(StateName::CommentClose, size),
         _ => State::Next(StateName::Comment, size),
     }
@@ -177,8 +176,7 @@ pub(crate) fn cdata(size: u8, b: u8) -> State
     ensures { result ≡ cdataOf size b }
 {
     match b {
-        b'\n' => line_ending_before(StateName::Cdata, size),
-        b'\r' => line_ending_before(StateName::Cdata, size),
+        b'\n' | b'\r' => line_ending_before(StateName::Cdata, size),
         b']' => State::Next(StateName::CdataClose, size),
         _ => State::Next(StateName::Cdata, size),
     }
@@ -222,8 +220,7 @@ pub(crate) fn declaration(size: u8, b: u8) -> State
     ensures { result ≡ declarationOf size b }
 {
     match b {
-        b'\n' => line_ending_before(StateName::Declaration, size),
-        b'\r' => line_ending_before(StateName::Declaration, size),
+        b'\n' | b'\r' => line_ending_before(StateName::Declaration, size),
         b'>' => end(b),
         _ => State::Next(StateName::Declaration, size),
     }
@@ -238,8 +235,7 @@ pub(crate) fn instruction(size: u8, b: u8) -> State
     ensures { result ≡ instructionOf size b }
 {
     match b {
-        b'\n' => line_ending_before(StateName::Instruction, size),
-        b'\r' => line_ending_before(StateName::Instruction, size),
+        b'\n' | b'\r' => line_ending_before(StateName::Instruction, size),
         b'?' => State::Next(StateName::InstructionClose, size),
         _ => State::Next(StateName::Instruction, size),
     }

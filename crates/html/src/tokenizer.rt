@@ -1,14 +1,15 @@
 // tokenizer.rs: the names of the states, the step that calls a state's function, and the run of a scan.
 ghost use Rattle.std.specs.Prelude.{◌≡◌, ◌+◌, length, drop};
+ghost use Rattle.lexical.specs.Text.{pick};
 ghost use Rattle.rules.specs.Scan.{inlineAnswer};
 ghost use Rattle.html.specs.TextMachine.{stepOf, runOf, bodyMark, bodyLength};
-ghost use Rattle.html.specs.Answer.{inlineOf};
+ghost use Rattle.html.specs.Answer.{inlineOf, carryingOf};
 
 use crate::html_text;
 use lexical::line::mark_or_line_end;
 use rules::Rules;
 
-#[derive(Clone, Copy)]
+#[derive(Clone, Copy, Debug, PartialEq, Eq)]
 pub enum StateName {
     Start,
     Open,
@@ -40,19 +41,30 @@ pub enum StateName {
 }
 
 // What a state does with a byte: take it and go on with a state and a size, take it as the last, or not take it.
-#[derive(Clone, Copy)]
+#[derive(Clone, Copy, Debug, PartialEq, Eq)]
 pub enum State {
     Next(StateName, u8),
     Ok,
     Nok,
 }
 
-// The answer of an inline scan.
-#[derive(Clone, Copy)]
-pub enum Inline {
-    Found { stop: usize, carry: u8 },
-    Missing { carry: u8 },
-    Refused { refusal: u8, carry: u8 },
+// The answer of an inline scan: where what was found stops, and how many letters of the CDATA prefix were counted.
+#[derive(Clone, Copy, Debug, PartialEq, Eq)]
+pub struct Inline {
+    pub stop: Option<usize>,
+    pub carry: u8,
+}
+
+impl Inline {
+    // With the carry passed in where T2 is left out: without it the carry is neither read nor changed.
+    pub fn keep(self, rules: Rules, carry: u8) -> Inline
+        ensures { inlineOf result ≡ pick rules.t2 (inlineOf self) (carryingOf carry (inlineOf self)) }
+    {
+        if rules.t2 {
+            return self;
+        }
+        Inline { carry, ..self }
+    }
 }
 
 // The state's function on the byte.
@@ -96,18 +108,18 @@ pub fn step(rules: Rules, state: StateName, size: u8, b: u8) -> State
     }
 }
 
-// The byte that ends the body of a state: another one, but a line ending, leaves the state as it is. A state without a body: 0.
+// The byte that ends the body of a state, if it has a body: another byte, but a line ending, leaves the state as it is.
 #[tactic(auto, unfolding(crate::specs::TextMachine::bodyMark))]
-fn body_mark(state: StateName) -> u8
+fn body_mark(state: StateName) -> Option<u8>
     ensures { result ≡ bodyMark state }
 {
     match state {
-        StateName::Comment => b'-',
-        StateName::Cdata => b']',
-        StateName::Declaration => b'>',
-        StateName::Instruction => b'?',
-        StateName::TagOpenAttributeValueQuoted(marker) => marker,
-        _ => 0,
+        StateName::Comment => Some(b'-'),
+        StateName::Cdata => Some(b']'),
+        StateName::Declaration => Some(b'>'),
+        StateName::Instruction => Some(b'?'),
+        StateName::TagOpenAttributeValueQuoted(marker) => Some(marker),
+        _ => None,
     }
 }
 
@@ -115,11 +127,10 @@ fn body_mark(state: StateName) -> u8
 fn body_end(text: &[u8], index: usize, state: StateName) -> usize
     ensures { result ≡ index + bodyLength (bodyMark state) (drop index text.now) }
 {
-    let mark = body_mark(state);
-    if mark == 0 {
-        return index;
+    match body_mark(state) {
+        Some(mark) => mark_or_line_end(text, index, mark),
+        None => index,
     }
-    mark_or_line_end(text, index, mark)
 }
 
 // From a state at an index to the end of the text.
@@ -137,13 +148,19 @@ pub(crate) fn run(rules: Rules, text: &[u8], from: usize, start: StateName, carr
                 index = body_end(text, index + 1, s);
             }
             State::Ok => {
-                let stop = index + 1;
-                return Inline::Found { stop, carry: size };
+                let stop = Some(index + 1);
+                return Inline { stop, carry: size };
             }
             State::Nok => {
-                return Inline::Missing { carry: size };
+                return Inline {
+                    stop: None,
+                    carry: size,
+                };
             }
         }
     }
-    Inline::Missing { carry: size }
+    Inline {
+        stop: None,
+        carry: size,
+    }
 }

@@ -22,9 +22,6 @@ putOf s k (state.Next s' k') = scanner s' k' Going
 putOf s k state.Ok = scanner s k Ok
 putOf s k state.Nok = scanner s k Nok
 
-unfoldable pub takenOf : Rules → StateName → ℕ → ℕ → Scanner
-takenOf ρ s k b = putOf s k (stepOf ρ s k b)
-
 -- a scan that has ended stays as it is
 abbrev pub whileGoing : Status → Scanner → Scanner → Scanner
 whileGoing Going after before = after
@@ -32,7 +29,7 @@ whileGoing Ok after before = before
 whileGoing Nok after before = before
 
 unfoldable pub scannerOf : Rules → Scanner → ℕ → Scanner
-scannerOf ρ s b = whileGoing s.status (takenOf ρ s.state s.size b) s
+scannerOf ρ s b = whileGoing s.status (putOf s.state s.size (stepOf ρ s.state s.size b)) s
 
 abbrev pub line : Kind → ContinuationName → Line
 line κ s = record { kind = κ; name = s }

@@ -1,9 +1,9 @@
 -- Where a reader stands after a scan.
-use Rattle.std.specs.Prelude.{ℕ, List, drop}
-use Rattle.lexical.specs.Text.{first}
+use Rattle.std.specs.Prelude.{ℕ, List, drop, unwrap_or}
+use Rattle.lexical.specs.Text.{none, first}
 use Rattle.rules.specs.Reading.{crate as ofCrate}
 use Rattle.rules.specs.Scan.{InlineAnswer, foundInline, noInline, refusedInline, inlineScan}
-use Rattle.html.specs.Answer.{inlineOf}
+use Rattle.html.specs.Answer.{inlineScanOf}
 use Rattle.reader.specs.declared.slice.Turn.{Turn}
 
 -- behind what was found; else where it stood
@@ -21,8 +21,9 @@ pub record Turned : Type 0 where
 abbrev pub turned : InlineAnswer → ℕ → ℕ → Turned
 turned a i b = record { answer = a; index = i; byte = b }
 
-abbrev pub turnedOf : Turn → Turned
-turnedOf t = turned (inlineOf t.answer) t.index t.byte
+-- a turn with the carry passed in
+abbrev pub turnedOf : ℕ → Turn → Turned
+turnedOf k t = turned (inlineScanOf k t.answer) t.index (unwrap_or t.byte none)
 
 abbrev pub turnedFrom : List ℕ → ℕ → InlineAnswer → Turned
 turnedFrom text i a = turned a (movedOf i a) (first (drop (movedOf i a) text))

@@ -6,68 +6,59 @@ ghost use Rattle.flow.specs.ContinuationMachine.{meetsOf};
 ghost use Rattle.flow.specs.declared.html_flow.ContinuationName.TheVariants.{Continuation};
 ghost use Rattle.reader.specs.Lent.{lineOf};
 
+use crate::lent::Lent;
 use flow::html_flow::{ContinuationName, Kind, continuation_step, is_close};
 use rules::Rules;
 
 // Where a line of a block stands on the way to its closer.
-#[derive(Clone, Copy)]
+#[derive(Clone, Copy, Debug, PartialEq, Eq)]
 pub struct Line {
     pub kind: Kind,
     pub name: ContinuationName,
 }
 
-// The line after a byte.
-fn next(line: Line, rules: Rules, b: u8) -> Line
-    ensures { result ≡ lineOf rules line b }
-{
-    let kind = line.kind;
-    let name = line.name;
-    Line {
-        kind,
-        name: continuation_step(rules, kind, name, b),
+impl Line {
+    // The line after a byte.
+    #[tactic(auto, unfolding(crate::specs::Lent::lineOf))]
+    fn next(self, rules: Rules, b: u8) -> Line
+        ensures { result ≡ lineOf rules self b }
+    {
+        Line {
+            kind: self.kind,
+            name: continuation_step(rules, self.kind, self.name, b),
+        }
     }
 }
 
-// The line lent: taken apart, the covered step, the fields stored back.
-pub fn step(line: &mut Line, rules: Rules, b: u8)
-    ensures { line.new ≡ lineOf rules line.old b }
-{
-    let after = next(
-        Line {
-            kind: line.kind,
-            name: line.name,
-        },
-        rules,
-        b,
-    );
-    line.kind = after.kind;
-    line.name = after.name;
-}
+impl Lent for Line {
+    ghost after = { lineOf };
 
-// By value over the lent step: whoever calls this one needs no walk.
-pub fn stepped(line: Line, rules: Rules, b: u8) -> Line
-    ensures { result ≡ lineOf rules line b }
-{
-    let mut lent = line;
-    step(&mut lent, rules, b);
-    lent
+    fn step(&mut self, rules: Rules, b: u8) {
+        let lent = Line {
+            kind: self.kind,
+            name: self.name,
+        };
+        let after = lent.next(rules, b);
+        self.kind = after.kind;
+        self.name = after.name;
+    }
 }
 
 // Whether a line of kinds 2 to 5 has the closer, by the lent step: what the run of the core gives.
 fn meets_closer(rules: Rules, kind: Kind, line: &[u8]) -> bool
     ensures { result ≡ meetsOf rules kind Continuation line.now }
 {
-    let mut name = ContinuationName::Continuation;
-    let mut i = 0;
-    while i < line.len() {
-        if is_close(name) {
+    let mut state = Line {
+        kind,
+        name: ContinuationName::Continuation,
+    };
+    for byte in line {
+        if is_close(state.name) {
             return true;
         }
-        let after = stepped(Line { kind, name }, rules, line[i]);
-        name = after.name;
-        i += 1;
+        state.step(rules, *byte);
     }
-    is_close(name)
+    is_close(state.name)
 }
 
 // Whether a line has the closer of its block. A raw end tag is found by its name, with no state kept from byte to byte: that search is the core's.
@@ -76,11 +67,9 @@ pub fn closes_line(rules: Rules, kind: Kind, line: &[u8]) -> bool
 {
     match kind {
         Kind::Raw => flow::html_flow::closes_line(rules, kind, line),
-        Kind::Comment => meets_closer(rules, kind, line),
-        Kind::Instruction => meets_closer(rules, kind, line),
-        Kind::Declaration => meets_closer(rules, kind, line),
-        Kind::Cdata => meets_closer(rules, kind, line),
-        Kind::Basic => false,
-        Kind::Complete => false,
+        Kind::Comment | Kind::Instruction | Kind::Declaration | Kind::Cdata => meets_closer(
+            rules, kind, line,
+        ),
+        Kind::Basic | Kind::Complete => false,
     }
 }

@@ -1,4 +1,4 @@
-use mathlib.Core.Path.{◌∙◌}
+use Rattle.std.proofs.Common.{inl, inr, ◌∙◌}
 use Rattle.rules.specs.Block.{beforeCloser}
 use Rattle.flow.proofs.ContinuationMeans.{finds-comment, finds-instruction, finds-declaration, finds-cdata}
 use Rattle.flow.proofs.html_flow.before_closer.Goals as goal
@@ -21,8 +21,4 @@ returns-in-Cdata c = c.find_closer-in-Cdata.ensures ∙ rw c.in-Cdata.is (finds-
 
 pub returns-in-Basic : goal.returns-in-Basic
 unfolding beforeCloser
-returns-in-Basic c = rw c.in-Basic.is
-
-pub returns-in-Complete : goal.returns-in-Complete
-unfolding beforeCloser
-returns-in-Complete c = rw c.in-Complete.is
+returns-in-Basic c = elim c.in-Basic.is [ inl e ↦ rw e | inr e ↦ rw e ]

@@ -1,6 +1,4 @@
-use mathlib.Core.Path.{◌∙◌, ap}
-use Prim.Native.Nat.{ℕ}
-use lib.Dec.{eqb}
+use Rattle.std.proofs.Common.{◌∙◌, ap, ℕ, eqb}
 use Rattle.rules.proofs.Prefix.{cdata-whole}
 use Rattle.flow.proofs.html_flow.cdata_open_inside.Goals as goal
 

@@ -1,10 +1,9 @@
-use mathlib.Core.Path.{refl, sym, ◌∙◌}
-use borrow.Author.Tests.{eq-eqb, ne_eqb}
-use Rattle.flow.proofs.OpenSteps.{comment-first}
+use Rattle.std.proofs.Common.{sym, refl, ◌∙◌}
+use Rattle.flow.proofs.OpenSteps.{first-test, comment-first}
 use Rattle.flow.proofs.html_flow.comment_open_inside.Goals as goal
 
-pub returns-then-peek-eq45 : goal.returns-then-peek-eq45
-returns-then-peek-eq45 c = record { kind = sym (comment-first _ ∙ rw (← c.peek.ensures, eq-eqb _ _ c.if-peek-eq45.true)); unnamed = λ n. refl }
+pub returns-then-eq-clause-kind : goal.returns-then-eq-clause-kind
+returns-then-eq-clause-kind c = let a = c.args in sym (comment-first _ ∙ rw (first-test c.peek.result a.line.now a.at c.peek.ensures 45 refl _ c.eq.ensures ∙ c.if-eq.true))
 
-pub returns : goal.returns
-returns c = record { kind = sym (comment-first _ ∙ rw (← c.peek.ensures, ne_eqb _ _ c.if-peek-eq45.false)); unnamed = λ n. refl }
+pub returns-clause-kind : goal.returns-clause-kind
+returns-clause-kind c = let a = c.args in sym (comment-first _ ∙ rw (first-test c.peek.result a.line.now a.at c.peek.ensures 45 refl _ c.eq.ensures ∙ c.if-eq.false))

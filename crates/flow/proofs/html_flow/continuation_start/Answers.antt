@@ -1,41 +1,30 @@
-use mathlib.Core.Path.{refl, sym, ◌∙◌}
-use Rattle.flow.specs.Answer.{kindNumber}
-use Rattle.flow.proofs.BlockSteps.{next-flags, text-over, same-from, line-ends, line-closes, line-on, next-within}
-use borrow.Author.Rules.{rules}
+use Rattle.flow.specs.Answer.{openingNumber, openingName}
+use Rattle.flow.proofs.BlockSteps.{next-flags, text-over, same-from, line-ends, line-closes, line-on}
+use Rattle.std.proofs.Common.{Some, sym, ◌∙◌}
 use Rattle.flow.proofs.html_flow.continuation_start.Goals as goal
 
-pub loop-stop-init : goal.loop-stop-init
-loop-stop-init c = refl
-
 pub returns-then-from-stop : goal.returns-then-from-stop
-returns-then-from-stop c = let a = c.args in c.continuation_after.ensures ∙ sym (same-from a.rules (kindNumber a.kind) a.name a.bulletin.now a.flags.now c.loop-stop.stop c.loop-stop.number _ c.continuation_start_non_lazy-from.ensures c.if-from-stop.true) ∙ c.loop-stop.invariant
+returns-then-from-stop c = let a = c.args in c.continuation_after.ensures ∙ sym (same-from a.rules (openingNumber (Some a.opening)) (openingName (Some a.opening)) a.bulletin.now a.flags.now c.loop-stop.stop c.loop-stop.number _ c.continuation_start_non_lazy-from.ensures c.if-from-stop.true) ∙ c.loop-stop.invariant
 
 pub returns-then-ends_before : goal.returns-then-ends_before
 returns-then-ends_before c = let a = c.args in
     c.continuation_after-then-ends_before.ensures
-    ∙ sym (line-ends a.rules (kindNumber a.kind) a.name a.bulletin.now a.flags.now c.loop-stop.stop c.loop-stop.number _ _ _ c.continuation_start_non_lazy-from.ensures c.continuation_before-content.ensures c.flag_at.ensures c.if-from-stop.false
+    ∙ sym (line-ends a.rules (openingNumber (Some a.opening)) (openingName (Some a.opening)) a.bulletin.now a.flags.now c.loop-stop.stop c.loop-stop.number _ _ _ c.continuation_start_non_lazy-from.ensures c.continuation_before-content.ensures c.flag_at.ensures c.if-from-stop.false
     (sym c.ends_before.ensures ∙ c.if-ends_before.true))
     ∙ c.loop-stop.invariant
-
-pub overflow_add-stop : goal.overflow_add-stop
-overflow_add-stop c = let a = c.args in
-    let h = next-within a.bulletin.now c.loop-stop.stop _ _ c.loop-stop-test.true c.continuation_start_non_lazy-from.ensures c.continuation_before-content.ensures in search (rules, h)
-
-pub overflow_add-from : goal.overflow_add-from
-overflow_add-from c = let h = next-within c.args.bulletin.now c.loop-stop.stop _ _ c.loop-stop-test.true c.continuation_start_non_lazy-from.ensures c.continuation_before-content.ensures in search (rules, h)
 
 pub returns-then-at-content : goal.returns-then-at-content
 returns-then-at-content c = let a = c.args in
     c.continuation_after-then-at-content.ensures
-    ∙ sym (line-closes a.rules (kindNumber a.kind) a.name a.bulletin.now a.flags.now c.loop-stop.stop c.loop-stop.number _ _ _ c.continuation_start_non_lazy-from.ensures c.continuation_before-content.ensures c.flag_at.ensures c.if-from-stop.false
+    ∙ sym (line-closes a.rules (openingNumber (Some a.opening)) (openingName (Some a.opening)) a.bulletin.now a.flags.now c.loop-stop.stop c.loop-stop.number _ _ _ c.continuation_start_non_lazy-from.ensures c.continuation_before-content.ensures c.flag_at.ensures c.if-from-stop.false
     (sym c.ends_before.ensures ∙ c.if-ends_before.false) _ c.before_closer-at.ensures c.if-at-content.true)
     ∙ c.loop-stop.invariant
 
 pub loop-stop-preserved : goal.loop-stop-preserved
 loop-stop-preserved c = let a = c.args in
-    sym (line-on a.rules (kindNumber a.kind) a.name a.bulletin.now a.flags.now c.loop-stop.stop c.loop-stop.number _ _ _ c.continuation_start_non_lazy-from.ensures c.continuation_before-content.ensures c.flag_at.ensures c.if-from-stop.false
+    sym (line-on a.rules (openingNumber (Some a.opening)) (openingName (Some a.opening)) a.bulletin.now a.flags.now c.loop-stop.stop c.loop-stop.number _ _ _ c.continuation_start_non_lazy-from.ensures c.continuation_before-content.ensures c.flag_at.ensures c.if-from-stop.false
     (sym c.ends_before.ensures ∙ c.if-ends_before.false) _ c.before_closer-at.ensures c.if-at-content.false _ (next-flags a.flags.now _ _ c.next_number-number.ensures))
     ∙ c.loop-stop.invariant
 
 pub returns : goal.returns
-returns c = let a = c.args in c.continuation_after-2.ensures ∙ sym (text-over a.rules (kindNumber a.kind) a.name a.bulletin.now a.flags.now _ _ c.loop-stop-test.false) ∙ c.loop-stop.invariant
+returns c = let a = c.args in c.continuation_after-2.ensures ∙ sym (text-over a.rules (openingNumber (Some a.opening)) (openingName (Some a.opening)) a.bulletin.now a.flags.now _ _ c.loop-stop-test.false) ∙ c.loop-stop.invariant

@@ -1,22 +1,29 @@
-use mathlib.Core.Path.{refl, sym, ◌∙◌, ap}
+use Rattle.std.proofs.Common.{sym, refl, ap, ◌∙◌, true, false, ne_eqb}
 use Rattle.rules.specs.Search.{choose}
-use Rattle.flow.proofs.OpenSteps.{declaration-out, declaration-dash, declaration-letter, declaration-cdata, declaration-other}
+use Rattle.flow.proofs.OpenSteps.{there, first-some, first-none, declaration-dash, declaration-cdata, declaration-other}
 use Rattle.flow.proofs.html_flow.declaration_open.Goals as goal
 
-pub returns-then-at-line : goal.returns-then-at-line
-returns-then-at-line c = let a = c.args in record { kind = sym (declaration-out a.line.now a.at c.if-at-line.true); unnamed = λ n. refl }
+pub returns-in-Some-eq45-clause-kind : goal.returns-in-Some-eq45-clause-kind
+returns-in-Some-eq45-clause-kind c =
+    c.comment_open_inside.ensures.kind ∙ sym (declaration-dash _ _ (there _ c.args.line.now c.args.at c.peek.ensures 45 _ refl c.in-Some-eq45.is c.in-Some-eq45.field-0-test))
 
-pub returns-then-b-eq45 : goal.returns-then-b-eq45
-returns-then-b-eq45 c = let a = c.args in record { kind = c.comment_open_inside.ensures.kind ∙ sym (declaration-dash a.line.now a.at c.if-at-line.false c.if-b-eq45.true); unnamed = c.comment_open_inside.ensures.unnamed }
+pub returns-then-cdata_open_inside-clause-kind : goal.returns-then-cdata_open_inside-clause-kind
+returns-then-cdata_open_inside-clause-kind c =
+    sym (declaration-cdata _ _ (there _ c.args.line.now c.args.at c.peek.ensures 91 _ refl c.in-Some-eq91.is c.in-Some-eq91.field-0-test)
+    ∙ ap (λ t. choose t (λ _. 5) (λ _. 0)) (sym c.cdata_open_inside.ensures ∙ c.if-cdata_open_inside.true))
 
-pub returns-then-is_letter : goal.returns-then-is_letter
-returns-then-is_letter c = let a = c.args in record { kind = sym (declaration-letter a.line.now a.at c.if-at-line.false (sym c.is_letter.ensures ∙ c.if-is_letter.true)); unnamed = λ n. refl }
+pub returns-else-cdata_open_inside-clause-kind : goal.returns-else-cdata_open_inside-clause-kind
+returns-else-cdata_open_inside-clause-kind c =
+    sym (declaration-cdata _ _ (there _ c.args.line.now c.args.at c.peek.ensures 91 _ refl c.in-Some-eq91.is c.in-Some-eq91.field-0-test)
+    ∙ ap (λ t. choose t (λ _. 5) (λ _. 0)) (sym c.cdata_open_inside.ensures ∙ c.if-cdata_open_inside.false))
 
-pub returns-then-cdata_open_inside : goal.returns-then-cdata_open_inside
-returns-then-cdata_open_inside c = let a = c.args in record { kind = sym (declaration-cdata a.line.now a.at c.if-at-line.false c.if-b-eq91.true ∙ ap (λ t. choose t (λ _. 5) (λ _. 0)) (sym c.cdata_open_inside.ensures ∙ c.if-cdata_open_inside.true)); unnamed = λ n. refl }
+pub returns-in-Some-clause-kind : goal.returns-in-Some-clause-kind
+returns-in-Some-clause-kind c = let t = c.in-Some.b-test in
+    sym (declaration-other _ _ true (first-some _ c.args.line.now c.args.at c.peek.ensures _ c.in-Some.is) (ne_eqb _ _ t.0.1) (ne_eqb _ _ t.1) (sym c.is_letter.ensures ∙ c.if-is_letter.true))
 
-pub returns-else-cdata_open_inside : goal.returns-else-cdata_open_inside
-returns-else-cdata_open_inside c = let a = c.args in record { kind = sym (declaration-cdata a.line.now a.at c.if-at-line.false c.if-b-eq91.true ∙ ap (λ t. choose t (λ _. 5) (λ _. 0)) (sym c.cdata_open_inside.ensures ∙ c.if-cdata_open_inside.false)); unnamed = λ n. refl }
+pub returns-in_default-clause-kind : goal.returns-in_default-clause-kind
+returns-in_default-clause-kind c = let t = c.in-Some.b-test in
+    sym (declaration-other _ _ false (first-some _ c.args.line.now c.args.at c.peek.ensures _ c.in-Some.is) (ne_eqb _ _ t.0.1) (ne_eqb _ _ t.1) (sym c.is_letter.ensures ∙ c.if-is_letter.false))
 
-pub returns-else-b-eq91 : goal.returns-else-b-eq91
-returns-else-b-eq91 c = let a = c.args in record { kind = sym (declaration-other a.line.now a.at c.if-at-line.false c.if-b-eq45.false (sym c.is_letter.ensures ∙ c.if-is_letter.false) c.if-b-eq91.false); unnamed = λ n. refl }
+pub returns-in_default-2-clause-kind : goal.returns-in_default-2-clause-kind
+returns-in_default-2-clause-kind c = sym (declaration-other _ _ false (first-none _ c.args.line.now c.args.at c.peek.ensures c.in_default.is) refl refl refl)

@@ -1,8 +1,5 @@
-use Prim.Native.Nat.{◌+◌, ◌-◌}
-use mathlib.Core.Path.{refl, sym, ◌∙◌, ap}
-use native.Mathlib.Omega.{arith}
+use Rattle.std.proofs.Common.{◌+◌, ◌-◌, refl, sym, ◌∙◌, ap, arith, rules}
 use Rattle.flow.proofs.ContinuationTurn.{closer-on, closer-here, closer-out, closer-behind, seen-turn, closer-read}
-use borrow.Author.Rules.{rules}
 use Rattle.flow.proofs.html_flow.find_closer.Goals as goal
 
 pub loop-i-init : goal.loop-i-init

@@ -1,7 +1,5 @@
 -- The invariant: no more bytes of a closer were seen than bytes were read, and in what is left the closer begins where it does in the line.
-use Prim.Native.Nat.{◌-◌, ◌≤◌}
-use mathlib.Core.Path.{◌≡◌}
-use lib.ListN.{length, drop}
+use Rattle.std.proofs.Common.{◌-◌, ◌≤◌, ◌≡◌, length, drop}
 use Rattle.flow.specs.ContinuationMachine.{closerStart, closedAt}
 use Rattle.flow.proofs.ContinuationTurn.{seen}
 use Rattle.flow.proofs.html_flow.find_closer.Given as goal

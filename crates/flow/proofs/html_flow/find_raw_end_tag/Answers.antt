@@ -1,9 +1,7 @@
-use mathlib.Core.Path.{sym, ◌∙◌}
-use native.Mathlib.Omega.{arith}
+use Rattle.std.proofs.Common.{sym, ◌∙◌, arith, rules}
 use Rattle.rules.specs.Block.{isRawEnd}
 use Rattle.rules.proofs.Past.{first-here, first-on, first-out}
 use Rattle.flow.proofs.RawEnd.{raw-end-behind}
-use borrow.Author.Rules.{rules}
 use Rattle.flow.proofs.html_flow.find_raw_end_tag.Goals as goal
 
 pub loop-i-init : goal.loop-i-init

@@ -1,6 +1,4 @@
-use mathlib.Core.Path.{◌≡◌}
-use Prim.Native.Nat.{◌-◌}
-use lib.ListN.{length}
+use Rattle.std.proofs.Common.{◌≡◌, ◌-◌, length}
 use Rattle.rules.specs.Search.{before}
 use Rattle.rules.specs.Block.{isRawEnd}
 use Rattle.rules.proofs.Past.{firstFrom}

@@ -1,13 +1,14 @@
-use mathlib.Core.Path.{refl, sym, ◌∙◌}
-use mathlib.Core.Bool.{true, false}
-use Rattle.flow.proofs.OpenSteps.{close-out, close-in}
+use Rattle.std.proofs.Common.{sym, refl, ◌∙◌, true, false}
+use Rattle.flow.proofs.OpenSteps.{first-some, first-none, close-in}
 use Rattle.flow.proofs.html_flow.tag_close_start.Goals as goal
 
-pub returns-then-at-line : goal.returns-then-at-line
-returns-then-at-line c = let a = c.args in record { kind = sym (close-out a.line.now a.at a.rules a.flag c.if-at-line.true); names = refl }
+pub returns-in-Some-clause-kind : goal.returns-in-Some-clause-kind
+returns-in-Some-clause-kind c = let a = c.args in
+    c.tag_name.ensures.kind ∙ sym (close-in a.rules a.flag _ _ true (first-some _ a.line.now a.at c.peek.ensures _ c.in-Some.is) (sym c.is_letter.ensures ∙ c.if-is_letter.true))
 
-pub returns-then-is_letter : goal.returns-then-is_letter
-returns-then-is_letter c = let a = c.args in record { kind = c.tag_name.ensures.kind ∙ sym (close-in a.line.now a.at a.rules a.flag true c.if-at-line.false (sym c.is_letter.ensures ∙ c.if-is_letter.true)); names = c.tag_name.ensures.names }
+pub returns-in_default-clause-kind : goal.returns-in_default-clause-kind
+returns-in_default-clause-kind c = let a = c.args in
+    sym (close-in a.rules a.flag _ _ false (first-some _ a.line.now a.at c.peek.ensures _ c.in-Some.is) (sym c.is_letter.ensures ∙ c.if-is_letter.false))
 
-pub returns : goal.returns
-returns c = let a = c.args in record { kind = sym (close-in a.line.now a.at a.rules a.flag false c.if-at-line.false (sym c.is_letter.ensures ∙ c.if-is_letter.false)); names = refl }
+pub returns-in_default-2-clause-kind : goal.returns-in_default-2-clause-kind
+returns-in_default-2-clause-kind c = let a = c.args in sym (close-in a.rules a.flag _ _ false (first-none _ a.line.now a.at c.peek.ensures c.in_default.is) refl)

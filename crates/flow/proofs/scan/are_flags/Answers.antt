@@ -1,18 +1,17 @@
-use mathlib.Core.Path.{refl, sym, ◌∙◌}
-use mathlib.Core.Bool.{true, false}
-use lib.Dec.{leb}
-use borrow.Author.Tests.{le-leb, lt-leb}
-use Rattle.flow.proofs.BlockSteps.{all-in, all-out}
+use Rattle.std.proofs.Common.{◌≡◌, ℕ, Bool, List, [], ◌∷◌, ◌&&◌, ◌∙◌, leb, refl, ap, rules, tests}
+use Rattle.std.specs.List.{list_all}
+use Rattle.std.proofs.lemmas.Iterator.{YieldsList-from_slice}
+use Rattle.std.proofs.lemmas.Iterator.Search.{all_from_yields_List}
+use Rattle.lexical.specs.Name.{all}
 use Rattle.flow.proofs.scan.are_flags.Goals as goal
 
-pub loop-i-init : goal.loop-i-init
-loop-i-init c = refl
-
-pub returns-then-flags-i-gt3 : goal.returns-then-flags-i-gt3
-returns-then-flags-i-gt3 c = sym (all-in (λ f. leb f 3) _ _ false c.loop-i-test.true (lt-leb _ _ c.if-flags-i-gt3.true)) ∙ c.loop-i.invariant
-
-pub loop-i-preserved : goal.loop-i-preserved
-loop-i-preserved c = sym (all-in (λ f. leb f 3) _ _ true c.loop-i-test.true (le-leb _ _ c.if-flags-i-gt3.false)) ∙ c.loop-i.invariant
+-- the library's word for the same test
+same-all : (f : ℕ → Bool) (xs : List ℕ) → list_all f xs ≡ all f xs
+unfolding all
+same-all f [] = refl
+same-all f (x ∷ xs) = ap (λ t. f x && t) (same-all f xs)
 
 pub returns : goal.returns
-returns c = sym (all-out (λ f. leb f 3) _ _ c.loop-i-test.false) ∙ c.loop-i.invariant
+returns c =
+    all_from_yields_List (λ f. leb f 3) _ _ c.all.result c.all.ensures.ran (YieldsList-from_slice c.args.flags.now cc) (λ x b q k. search (rules, tests))
+    ∙ same-all (λ f. leb f 3) c.args.flags.now

@@ -1,9 +1,4 @@
-use mathlib.Core.Path.{◌≡◌, ◌∙◌}
-use Prim.Native.Nat.{ℕ, ◌≤◌}
-use mathlib.Core.List.{List}
-use native.Mathlib.Omega.{arith}
-use lib.Dec.{leb}
-use borrow.Author.Tests.{leb-true, leb-false, eq-eqb, ne_eqb}
+use Rattle.std.proofs.Common.{◌≡◌, ◌∙◌, ℕ, ◌≤◌, List, arith, leb, leb-true, leb-false, eq-eqb, ne_eqb}
 use Rattle.lexical.specs.Name.{cdataLetters}
 use Rattle.lexical.proofs.Cases.{split}
 use Rattle.lexical.proofs.Prefix.{letters-most, letters-over}

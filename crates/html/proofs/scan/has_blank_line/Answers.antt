@@ -1,8 +1,7 @@
-use mathlib.Core.Path.{sym, ◌∙◌}
+use Rattle.std.proofs.Common.{sym, ◌∙◌}
 use Rattle.rules.specs.Refusal.{blankFollows}
 use Rattle.rules.proofs.Past.{somewhere-in, somewhere-out}
 use Rattle.html.proofs.Blank.{blank-behind}
-use borrow.Author.Rules.{rules}
 use Rattle.html.proofs.scan.has_blank_line.Goals as goal
 
 pub loop-i-init : goal.loop-i-init
@@ -10,9 +9,6 @@ loop-i-init c = sym (blank-behind _ 0 _ c.line_end-i.ensures)
 
 pub returns-then-blank_follows : goal.returns-then-blank_follows
 returns-then-blank_follows c = sym (somewhere-in blankFollows _ _ c.loop-i-test.true ∙ rw (← c.blank_follows.ensures, c.if-blank_follows.true)) ∙ c.loop-i.invariant
-
-pub loop-i-smaller : goal.loop-i-smaller
-loop-i-smaller c = search (rules, c.line_end-i-in-loop-i.ensures)
 
 pub loop-i-preserved : goal.loop-i-preserved
 loop-i-preserved c = sym (blank-behind _ _ _ c.line_end-i-in-loop-i.ensures)

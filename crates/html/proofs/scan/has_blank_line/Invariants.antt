@@ -1,6 +1,4 @@
-use mathlib.Core.Path.{◌≡◌}
-use Prim.Native.Nat.{◌-◌}
-use lib.ListN.{length, drop}
+use Rattle.std.proofs.Common.{◌≡◌, ◌-◌, length, drop}
 use Rattle.rules.specs.Search.{somewhere}
 use Rattle.rules.specs.Refusal.{blankFollows}
 use Rattle.html.proofs.scan.has_blank_line.Given as goal

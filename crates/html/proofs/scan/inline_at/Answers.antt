@@ -1,5 +1,4 @@
-use mathlib.Core.Path.{◌∙◌}
-use native.Mathlib.Omega.{arith}
+use Rattle.std.proofs.Common.{◌∙◌, arith}
 use Rattle.html.proofs.Kept.{either-carry, no-carry}
 use Rattle.html.proofs.scan.inline_at.Goals as goal
 

@@ -1,17 +1,9 @@
-use mathlib.Core.Path.{refl, sym, ◌∙◌, ap}
-use lib.ListN.{length}
+use Rattle.std.proofs.Common.{sym, ◌∙◌, ap, length}
 use Rattle.rules.specs.Scan.{inlineAnswer}
 use Rattle.html.specs.declared.tokenizer.State.TheVariants.{Next, Ok, Nok}
 use Rattle.html.proofs.Body.{body-behind}
 use Rattle.html.proofs.Turn.{turn, ended, stop-is}
-use borrow.Author.Rules.{rules}
 use Rattle.html.proofs.tokenizer.run.Goals as goal
-
-pub loop-index-init : goal.loop-index-init
-loop-index-init c = refl
-
-pub loop-index-smaller : goal.loop-index-smaller
-loop-index-smaller c = search (rules, c.body_end-index.ensures)
 
 pub loop-index-preserved : goal.loop-index-preserved
 loop-index-preserved c = sym (body-behind _ _ _ _ _ _ c.body_end-index.ensures)

@@ -1,7 +1,5 @@
 -- The invariant: what is left of the run is the whole run.
-use Prim.Native.Nat.{◌-◌}
-use mathlib.Core.Path.{◌≡◌}
-use lib.ListN.{length, drop}
+use Rattle.std.proofs.Common.{◌-◌, ◌≡◌, length, drop}
 use Rattle.html.specs.TextMachine.{runOf}
 use Rattle.html.proofs.tokenizer.run.Given as goal
 

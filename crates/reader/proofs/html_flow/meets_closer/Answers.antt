@@ -1,18 +1,18 @@
-use mathlib.Core.Path.{refl, sym, ◌∙◌, ap}
+use Rattle.std.proofs.Common.{◌+◌, drop, refl, sym, ap, ◌∙◌}
+use Rattle.flow.specs.ContinuationMachine.{meetsOf}
 use Rattle.flow.proofs.ContinuationTurn.{met, turn, ended}
 use Rattle.reader.specs.Lent.{lineOf}
 use Rattle.reader.specs.declared.html_flow.Line.{Line}
 use Rattle.reader.proofs.html_flow.meets_closer.Goals as goal
 
-pub loop-i-init : goal.loop-i-init
-loop-i-init c = refl
-
 pub returns-then-is_close : goal.returns-then-is_close
-returns-then-is_close c = sym (met _ _ _ _ (sym c.is_close.ensures ∙ c.if-is_close.true)) ∙ c.loop-i.invariant
+returns-then-is_close c = sym (met _ _ _ _ (sym c.is_close.ensures ∙ c.if-is_close.true)) ∙ c.loop-byte.invariant
 
-pub loop-i-preserved : goal.loop-i-preserved
+pub loop-byte-preserved : goal.loop-byte-preserved
 unfolding lineOf
-loop-i-preserved c = sym (turn _ _ _ _ _ _ c.loop-i-test.true (ap (λ (t : Line). t.name) c.stepped-after.ensures) (sym c.is_close.ensures ∙ c.if-is_close.false)) ∙ c.loop-i.invariant
+loop-byte-preserved c = let a = c.args in
+    ap (λ (t : Line). meetsOf a.rules t.kind t.name (drop (c.loop-byte.byte-index + 1) a.line.now)) c.step.ensures
+    ∙ sym (turn a.rules _ a.line.now _ c.loop-byte.byte-index _ c.loop-byte-test.true refl (sym c.is_close.ensures ∙ c.if-is_close.false)) ∙ c.loop-byte.invariant
 
 pub returns : goal.returns
-returns c = c.is_close-2.ensures ∙ sym (ended _ _ _ _ _ c.loop-i-test.false) ∙ c.loop-i.invariant
+returns c = c.is_close-2.ensures ∙ sym (ended _ _ _ _ _ c.loop-byte-test.false) ∙ c.loop-byte.invariant

@@ -1,17 +1,11 @@
--- The checks run down the table of 01: each return passes those before it.
-use mathlib.Core.Path.{◌≡◌, sym, ◌∙◌, ap}
-use mathlib.Core.Bool.{true, false, not}
-use mathlib.Core.List.{List}
-use Prim.Native.Nat.{ℕ}
-use lib.Dec.{eqb, leb, ltb}
-use lib.ListN.{length}
-use borrow.Author.Tests.{eq-eqb, ne_eqb}
+-- The checks run down the table of docs/SCOPE.md: each return passes those before it.
+use Rattle.std.proofs.Common.{◌≡◌, sym, ◌∙◌, ap, true, false, not, List, ℕ, eqb, leb, ltb, length, eq-eqb, ne_eqb}
 use Rattle.lexical.specs.Text.{limit}
 use Rattle.lexical.specs.Line.{lines}
 use Rattle.lexical.specs.Name.{all}
 use Rattle.rules.specs.Refusal.{bulletinRefusal}
 use Rattle.rules.proofs.Refusals.{applies, passes, no-more}
-use Rattle.flow.proofs.scan.bulletin_refusal.Goals as goal
+use Rattle.flow.proofs.scan.check_bulletin.Goals as goal
 
 -- the tests as the code makes them: over the limit, the number of lines, and whether all are flags
 module _ (text flags : List ℕ) where
