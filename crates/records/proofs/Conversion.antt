@@ -1,15 +1,10 @@
 -- Across and back: both ways keep the records, so coming back writes the first bytes again. And how long traces are.
-use mathlib.Core.Path.{◌≡◌, refl, sym, ◌∙◌, ap}
-use mathlib.Core.Bool.{Bool, true, false, ◌||◌, not}
-use mathlib.Core.List.{List, [], ◌∷◌}
-use Prim.Native.Nat.{ℕ, ◌+◌, ◌*◌, ◌-◌}
-use native.Mathlib.Omega.{arith}
-use lib.Dec.{eqb, ltb}
-use lib.ListN.{length}
-use borrow.Author.Tests.{eqb-true, ltb-false, le-ltb, not-false}
+use Rattle.std.proofs.Common.{◌≡◌, refl, sym, ◌∙◌, ap, Bool, true, false, ◌||◌, not, List, [], ◌∷◌, ℕ, ◌+◌, ◌*◌, ◌-◌, arith, eqb, ltb, length, eqb-true, ltb-false, le-ltb}
+use Rattle.std.proofs.lemmas.Bool.{or_parts}
+use borrow.Author.Tests.{not-false}
 use Rattle.std.specs.Prelude.{All}
 use Rattle.std.proofs.lemmas.List.Elements.{All-nil, All-cons, All-head, All-tail, All-weaker}
-use Rattle.lexical.proofs.Cases.{split, or-left, or-right}
+use Rattle.lexical.proofs.Cases.{split}
 use Rattle.rules.specs.Refusal.{Check, check, refusal}
 use Rattle.rules.specs.Trace.{wide, narrow, Record, eventRecord, lastRecord, refusedRecord, traceBytes, readTrace}
 use Rattle.rules.proofs.Refusals.{not-met}
@@ -42,10 +37,10 @@ module _ (w : ℕ) (s : List ℕ) (e : traceRefusal w s ≡ 0) where
 
   module _ (b : areBytes s ≡ true) where
     again : traceBytes w (records w s) ≡ s
-    again = written-back w s b 0 none-bad
+    again = written-back w s b none-bad
 
     readable : All (Sound w) (records w s)
-    readable = all-sound w s b 0 none-bad
+    readable = all-sound w s b none-bad
 
     pub own-length : length s ≡ (length (records w s) - 1) * (2 + 3 * w) + (2 + w)
     own-length = ap length (sym again) ∙ converted-length w
@@ -66,13 +61,13 @@ under (refusedRecord n) s = absurd s
 
 less : (r : Record) → Sound wide r → isOver r ≡ false → Sound narrow r
 less (eventRecord k l c i v) s e =
-    let ci = or-right (ltb 65535 l) (ltb 65535 c || ltb 65535 i) e in (
+    let ci = (or_parts (ltb 65535 l) (ltb 65535 c || ltb 65535 i) e).1 in (
       s.0,
       s.1,
       (
-        omega (arith, ltb-false 65535 l (or-left (ltb 65535 l) (ltb 65535 c || ltb 65535 i) e)),
-        omega (arith, ltb-false 65535 c (or-left (ltb 65535 c) (ltb 65535 i) ci)),
-        omega (arith, ltb-false 65535 i (or-right (ltb 65535 c) (ltb 65535 i) ci)),
+        omega (arith, ltb-false 65535 l (or_parts (ltb 65535 l) (ltb 65535 c || ltb 65535 i) e).0),
+        omega (arith, ltb-false 65535 c (or_parts (ltb 65535 c) (ltb 65535 i) ci).0),
+        omega (arith, ltb-false 65535 i (or_parts (ltb 65535 c) (ltb 65535 i) ci).1),
       ),
     )
 less (lastRecord k stop n) s e = (s.0, s.1, omega (arith, ltb-false 65535 stop e))
@@ -87,12 +82,12 @@ all-less : (rs : List Record) → All (Sound wide) rs → someOver rs ≡ false 
 unfolding someOver
 all-less [] a e = All-nil (Sound narrow)
 all-less (r ∷ rs) a e =
-    All-cons (Sound narrow) r rs (less r (All-head (Sound wide) r rs a) (or-left (isOver r) (someOver rs) e))
-    (all-less rs (All-tail (Sound wide) r rs a) (or-right (isOver r) (someOver rs) e))
+    All-cons (Sound narrow) r rs (less r (All-head (Sound wide) r rs a) (or_parts (isOver r) (someOver rs) e).0)
+    (all-less rs (All-tail (Sound wide) r rs a) (or_parts (isOver r) (someOver rs) e).1)
 
 -- ---- what reading and refusing say of a trace they say of its records
 read-same : (v w : ℕ) (s t : List ℕ) → records w t ≡ records v s → (n : ℕ) → readTrace w n t ≡ readTrace v n s
-read-same v w s t e n = read-at w t n 0 ∙ ap (nth w n) e ∙ sym (read-at v s n 0)
+read-same v w s t e n = read-at w n t ∙ ap (nth w n) e ∙ sym (read-at v n s)
 
 refused-same : (v w : ℕ) (s t : List ℕ) → records w t ≡ records v s → traceRefusal w t ≡ traceRefusal v s
 unfolding traceRefusal

@@ -1,18 +1,19 @@
 -- Laws of numbers in fields of w bytes, low first: how long they are, that what is written is read back where it fits, and that what is read from bytes is
 -- written back.
-use mathlib.Core.Path.{◌≡◌, refl, ap}
-use mathlib.Core.Bool.{true}
-use mathlib.Core.List.{List, [], ◌∷◌, ◌++◌}
-use Prim.Native.Nat.{ℕ, zero, suc, ◌+◌, ◌*◌, ◌/◌, ◌%◌, ◌<◌, ◌≤◌}
+use Rattle.std.proofs.Common.{◌≡◌, refl, ap, true, List, [], ◌∷◌, ◌++◌, ℕ, zero, suc, ◌+◌, ◌*◌, ◌/◌, ◌%◌, ◌<◌, ◌≤◌, arith, ltb, length, get_or, take, drop, ltb-true, lt-ltb}
+use Rattle.std.proofs.lemmas.Bool.{and_parts}
 use Rattle.std.specs.Prelude.{◌^◌}
-use native.Mathlib.Omega.{arith}
-use lib.Dec.{ltb}
-use lib.ListN.{length, get_or, take, drop}
-use borrow.Author.Tests.{ltb-true, lt-ltb}
 use Rattle.lexical.specs.Name.{all}
-use Rattle.lexical.proofs.Cases.{and-left, and-right}
 use Rattle.rules.specs.Trace.{field, number}
+use Rattle.records.specs.Answer.{bytesOf}
 use Rattle.records.specs.Conversion.{areBytes}
+use Rattle.records.specs.declared.reader.Width.{Width}
+use Rattle.records.specs.declared.reader.Width.TheVariants.{Narrow, Wide}
+
+-- a field has two bytes at least, and four at most
+pub few : (width : Width) → (2 ≤ bytesOf width) × (bytesOf width ≤ 4)
+few Narrow = (omega arith, omega arith)
+few Wide = (omega arith, omega arith)
 
 pub field-length : (w n : ℕ) → length (field w n) ≡ w
 unfolding field
@@ -35,11 +36,11 @@ are-bytes (x ∷ s) h = rw (lt-ltb x 256 (h 0)) (are-bytes s (λ i. h (suc i)))
 
 byte-first : (x : ℕ) (s : List ℕ) → areBytes (x ∷ s) ≡ true → x < 256
 unfolding all
-byte-first x s b = ltb-true x 256 (and-left (ltb x 256) (areBytes s) b)
+byte-first x s b = ltb-true x 256 (and_parts (ltb x 256) (areBytes s) b).0
 
 bytes-rest : (x : ℕ) (s : List ℕ) → areBytes (x ∷ s) ≡ true → areBytes s ≡ true
 unfolding all
-bytes-rest x s b = and-right (ltb x 256) (areBytes s) b
+bytes-rest x s b = (and_parts (ltb x 256) (areBytes s) b).1
 
 pub bytes-drop : (n : ℕ) (s : List ℕ) → areBytes s ≡ true → areBytes (drop n s) ≡ true
 bytes-drop zero s b = b

@@ -1,18 +1,12 @@
 -- Laws of a record with fields of w bytes: how long it is, what stands at an index of a trace and what is wrong with it; one that is written is read back where it
 -- fits, and one that is read is written back.
-use mathlib.Core.Path.{◌≡◌, refl, sym, ◌∙◌, ap}
-use mathlib.Core.Bool.{Bool, true, false, ◌||◌}
-use mathlib.Core.List.{List, [], ◌∷◌, ◌++◌, append-nil, append_assoc}
-use Prim.Native.Nat.{ℕ, suc, ◌+◌, ◌*◌, ◌-◌, ◌^◌, ◌<◌, ◌≤◌}
-use native.Mathlib.Omega.{arith}
-use native.Mathlib.Numerals.{one-add}
-use lib.Dec.{eqb, ltb, leb}
-use lib.ListN.{length, get_or, take, drop, length-append, length-drop}
-use lib.Seq.{drop-drop, drop_at, get_or-drop, take-add}
-use borrow.Author.Tests.{eqb-false, ne_eqb, ltb-true, ltb-false, lt-ltb, le-ltb, leb-true, leb-false, le-leb, lt-leb}
+use Rattle.std.proofs.Common.{◌≡◌, refl, sym, ◌∙◌, ap, Bool, true, false, ◌||◌, List, [], ◌∷◌, ◌++◌, append-nil, append_assoc, ℕ, suc, ◌+◌, ◌*◌, ◌^◌, ◌<◌, ◌≤◌, arith, one-add, eqb, ltb, leb, length, get_or, take, drop, length-append, length-drop, drop-drop, drop_at, get_or-drop, take-add, eqb-true, ne_eqb, ltb-true, ltb-false, lt-ltb, le-ltb, leb-true, leb-false, le-leb}
+use Rattle.std.proofs.lemmas.List.{drop_more}
+use Rattle.std.proofs.lemmas.Bool.{or_parts}
+use borrow.Author.Tests.{eqb-false, lt-leb}
 use Rattle.lexical.specs.Text.{first}
-use Rattle.lexical.proofs.Cases.{split, or-left, or-right}
-use Rattle.lexical.proofs.Suffix.{suffix-in, suffix-out, first-in}
+use Rattle.lexical.proofs.Cases.{split}
+use Rattle.lexical.proofs.Suffix.{first-in}
 use Rattle.rules.specs.Search.{choose}
 use Rattle.rules.specs.Refusal.{refusal}
 use Rattle.rules.specs.Trace.{field, number, Record, eventRecord, lastRecord, refusedRecord, recordBytes, traceBytes, recordLength, recordRefusal, recordAt}
@@ -28,6 +22,13 @@ Sound w (refusedRecord n) = ⊥
 
 abbrev wrongKind : ℕ → Bool
 wrongKind kind = eqb kind 0 || ltb 14 kind
+
+-- ---- whether there are bytes
+pub some-left : (s : List ℕ) → false ≡ eqb (length s) 0 → 0 < length s
+some-left s e = let n = eqb-false (length s) 0 (sym e) in omega arith
+
+pub none-left : (s : List ℕ) → true ≡ eqb (length s) 0 → length s ≡ 0
+none-left s e = eqb-true (length s) 0 (sym e)
 
 module _ (w : ℕ) where
   -- ---- lengths
@@ -56,101 +57,78 @@ module _ (w : ℕ) where
   unfolding recordBytes
   last-bytes kind stop n = simp (length-append, field-length) (omega arith)
 
-  -- ---- the record at an index: what is wrong with it
-  module _ (s : List ℕ) (at : ℕ) where
-    pub flaw-out : length s ≤ at → recordRefusal w (drop at s) ≡ 9
+  -- ---- the record in front: what is wrong with it
+  module _ (s : List ℕ) where
+    pub flaw-out : length s ≡ 0 → recordRefusal w s ≡ 9
     unfolding recordRefusal refusal
-    flaw-out h = rw (suffix-out s at h)
+    flaw-out h = rw h
 
-    flaw-in : at < length s
-        → recordRefusal w (drop at s)
-        ≡ choose (wrongKind (get_or s at 0)) (λ _. 8) (λ _. choose (ltb (length s - at) (recordLength w (get_or s at 0))) (λ _. 9) (λ _. 0))
+    pub head : 0 < length s → first s ≡ get_or s 0 0
+    head h = first-in s 0 h
+
+    flaw-in : 0 < length s → recordRefusal w s ≡ choose (wrongKind (get_or s 0 0)) (λ _. 8) (λ _. choose (ltb (length s) (recordLength w (get_or s 0 0))) (λ _. 9) (λ _. 0))
     unfolding recordRefusal refusal
-    flaw-in h =
-        let some : eqb (length s - at) 0 ≡ false = ne_eqb (length s - at) 0 (λ z. omega arith) in
-        rw (length-drop at s, first-in s at h, some)
+    flaw-in h = let some : eqb (length s) 0 ≡ false = ne_eqb (length s) 0 (λ z. omega arith) in rw (head h, some)
 
-    pub flaw-kind : at < length s → wrongKind (get_or s at 0) ≡ true → recordRefusal w (drop at s) ≡ 8
+    pub flaw-kind : 0 < length s → wrongKind (get_or s 0 0) ≡ true → recordRefusal w s ≡ 8
     flaw-kind h e = flaw-in h ∙ rw e
 
-    pub flaw-cut : at < length s → wrongKind (get_or s at 0) ≡ false → length s - at < recordLength w (get_or s at 0) → recordRefusal w (drop at s) ≡ 9
-    flaw-cut h e l = flaw-in h ∙ rw (e, lt-ltb (length s - at) (recordLength w (get_or s at 0)) l)
+    pub flaw-cut : 0 < length s → wrongKind (get_or s 0 0) ≡ false → length s < recordLength w (get_or s 0 0) → recordRefusal w s ≡ 9
+    flaw-cut h e l = flaw-in h ∙ rw (e, lt-ltb (length s) (recordLength w (get_or s 0 0)) l)
 
-    pub flaw-none : at < length s → wrongKind (get_or s at 0) ≡ false → recordLength w (get_or s at 0) ≤ length s - at → recordRefusal w (drop at s) ≡ 0
-    flaw-none h e l = flaw-in h ∙ rw (e, le-ltb (length s - at) (recordLength w (get_or s at 0)) l)
+    pub flaw-none : 0 < length s → wrongKind (get_or s 0 0) ≡ false → recordLength w (get_or s 0 0) ≤ length s → recordRefusal w s ≡ 0
+    flaw-none h e l = flaw-in h ∙ rw (e, le-ltb (length s) (recordLength w (get_or s 0 0)) l)
 
   -- a record with nothing wrong
-  pub record Whole (s : List ℕ) (at : ℕ) : Type 0 where
-    pub starts : at < length s
-    pub from : 1 ≤ get_or s at 0
-    pub to : get_or s at 0 ≤ 14
-    pub fits : at + recordLength w (get_or s at 0) ≤ length s
+  pub record Whole (s : List ℕ) : Type 0 where
+    pub starts : 0 < length s
+    pub from : 1 ≤ get_or s 0 0
+    pub to : get_or s 0 0 ≤ 14
+    pub fits : recordLength w (get_or s 0 0) ≤ length s
 
-  module _ (s : List ℕ) (at : ℕ) where
-    pub whole : recordRefusal w (drop at s) ≡ 0 → Whole s at
-    whole e =
-        let kind = get_or s at 0 in
-        let h : at < length s = split (ltb at (length s)) (λ t. ltb-true at (length s) t) (λ t. let z = flaw-out s at (ltb-false at (length s) t) in absurd (omega arith)) in
-        split (wrongKind kind) (λ t. let z = flaw-kind s at h t in absurd (omega arith))
-        (λ t. split (ltb (length s - at) (recordLength w kind))
-        (λ u. let z = flaw-cut s at h t (ltb-true _ _ u) in absurd (omega arith))
-        (λ u.
-        let l : recordLength w kind ≤ length s - at = ltb-false _ _ u in
-        let some = eqb-false kind 0 (or-left (eqb kind 0) (ltb 14 kind) t) in
-        record { starts = h; from = omega arith; to = ltb-false 14 kind (or-right (eqb kind 0) (ltb 14 kind) t); fits = omega arith }))
-
-  -- ---- the record of a flaw, and with none
   module _ (s : List ℕ) where
-    abbrev content : Record
-    content =
-        choose (leb (first s) 12)
-        (λ _. eventRecord (first s) (number w (drop 1 s)) (number w (drop (1 + w) s)) (number w (drop (1 + 2 * w) s)) (get_or s (1 + 3 * w) 0))
-        (λ _. lastRecord (first s) (number w (drop 1 s)) (get_or s (1 + w) 0))
+    pub whole : recordRefusal w s ≡ 0 → Whole s
+    whole e =
+        let kind = get_or s 0 0 in
+        let h : 0 < length s = split (ltb 0 (length s)) (λ t. ltb-true 0 (length s) t) (λ t. let n = ltb-false 0 (length s) t in let z = flaw-out s (omega arith) in absurd (omega arith)) in
+        split (wrongKind kind) (λ t. let z = flaw-kind s h t in absurd (omega arith))
+        (λ t. split (ltb (length s) (recordLength w kind))
+        (λ u. let z = flaw-cut s h t (ltb-true _ _ u) in absurd (omega arith))
+        (λ u.
+        let some = eqb-false kind 0 (or_parts (eqb kind 0) (ltb 14 kind) t).0 in
+        record { starts = h; from = omega arith; to = ltb-false 14 kind (or_parts (eqb kind 0) (ltb 14 kind) t).1; fits = ltb-false _ _ u }))
 
+    -- ---- the record of a flaw, and with none that of an event or a last one
     pub record-none : (recordRefusal w s ≡ 0 → ⊥) → recordAt w s ≡ refusedRecord (recordRefusal w s)
     unfolding recordAt
     record-none h = rw (ne_eqb (recordRefusal w s) 0 h)
 
-    record-whole : recordRefusal w s ≡ 0 → recordAt w s ≡ content
-    unfolding recordAt
-    record-whole e = rw e
-
-  module _ (s : List ℕ) (at : ℕ) where
-    -- with the fields of an event and of a last record at an index
     abbrev pub eventAt : Record
-    eventAt = eventRecord (get_or s at 0) (number w (drop (at + 1) s)) (number w (drop (at + 1 + w) s)) (number w (drop (at + 1 + 2 * w) s)) (get_or s (at + 1 + 3 * w) 0)
+    eventAt = eventRecord (get_or s 0 0) (number w (drop 1 s)) (number w (drop (1 + w) s)) (number w (drop (1 + 2 * w) s)) (get_or s (1 + 3 * w) 0)
 
     abbrev pub lastAt : Record
-    lastAt = lastRecord (get_or s at 0) (number w (drop (at + 1) s)) (get_or s (at + 1 + w) 0)
+    lastAt = lastRecord (get_or s 0 0) (number w (drop 1 s)) (get_or s (1 + w) 0)
 
-    module _ (e : recordRefusal w (drop at s) ≡ 0) where
-      pub head : first (drop at s) ≡ get_or s at 0
-      head = first-in s at (whole s at e).starts
+    module _ (e : recordRefusal w s ≡ 0) where
+      pub event-at : get_or s 0 0 ≤ 12 → recordAt w s ≡ eventAt
+      unfolding recordAt
+      event-at h = rw (e, head s (whole e).starts, le-leb (get_or s 0 0) 12 h)
 
-      pub event-at : get_or s at 0 ≤ 12 → recordAt w (drop at s) ≡ eventAt
-      event-at h =
-          let a : at + (1 + w) ≡ at + 1 + w = omega arith in
-          let b : at + (1 + 2 * w) ≡ at + 1 + 2 * w = omega arith in
-          let d : at + (1 + 3 * w) ≡ at + 1 + 3 * w = omega arith in
-          record-whole (drop at s) e ∙ rw (head, le-leb (get_or s at 0) 12 h, drop-drop, drop-drop, drop-drop, get_or-drop, a, b, d)
+      pub last-at : 12 < get_or s 0 0 → recordAt w s ≡ lastAt
+      unfolding recordAt
+      last-at h = rw (e, head s (whole e).starts, lt-leb (get_or s 0 0) 12 h)
 
-      pub last-at : 12 < get_or s at 0 → recordAt w (drop at s) ≡ lastAt
-      last-at h =
-          let a : at + (1 + w) ≡ at + 1 + w = omega arith in
-          record-whole (drop at s) e ∙ rw (head, lt-leb (get_or s at 0) 12 h, drop-drop, get_or-drop, a)
+      pub event-fits : get_or s 0 0 ≤ 12 → 2 + 3 * w ≤ length s
+      event-fits h = omega (arith, (whole e).fits, event-size (get_or s 0 0) h)
 
-      pub event-fits : get_or s at 0 ≤ 12 → at + (2 + 3 * w) ≤ length s
-      event-fits h = omega (arith, (whole s at e).fits, event-size (get_or s at 0) h)
+      pub last-fits : 12 < get_or s 0 0 → 2 + w ≤ length s
+      last-fits h = omega (arith, (whole e).fits, last-size (get_or s 0 0) h)
 
-      pub last-fits : 12 < get_or s at 0 → at + (2 + w) ≤ length s
-      last-fits h = omega (arith, (whole s at e).fits, last-size (get_or s at 0) h)
-
-      -- it is an event or a last record
-      pub either : (P : Record → Type 0) → (get_or s at 0 ≤ 12 → P eventAt) → (12 < get_or s at 0 → P lastAt) → P (recordAt w (drop at s))
+      pub either : (P : Record → Type 0) → (get_or s 0 0 ≤ 12 → P eventAt) → (12 < get_or s 0 0 → P lastAt) → P (recordAt w s)
       either P a b =
-          split (leb (get_or s at 0) 12)
-          (λ k. let h = leb-true (get_or s at 0) 12 k in rw (event-at h) (a h))
-          (λ k. let h = leb-false (get_or s at 0) 12 k in rw (last-at h) (b h))
+          split (leb (get_or s 0 0) 12)
+          (λ k. let h = leb-true (get_or s 0 0) 12 k in rw (event-at h) (a h))
+          (λ k. let h = leb-false (get_or s 0 0) 12 k in rw (last-at h) (b h))
 
   -- ---- a record that is written, with rest behind it, is read
   pub record Front (r : Record) (s rest : List ℕ) : Type 0 where
@@ -198,11 +176,11 @@ module _ (w : ℕ) where
         let n = event-length in
         let size = event-size kind s.1 in
         let right : wrongKind kind ≡ false = rw (ne_eqb kind 0 (λ z. omega (arith, s.0)), le-ltb 14 kind (omega (arith, s.1))) in
-        let none : recordRefusal w event ≡ 0 = flaw-none event 0 (omega arith) right (omega arith) in
+        let none : recordRefusal w event ≡ 0 = flaw-none event (omega arith) right (omega arith) in
         let e : 2 + 3 * w ≡ 1 + 3 * w + 1 = omega arith in
         record {
           some = omega arith;
-          at = event-at event 0 none s.1
+          at = event-at event none s.1
               ∙ rw (
                 behind-line,
                 behind-column,
@@ -234,11 +212,11 @@ module _ (w : ℕ) where
         let m = last-length in
         let size = last-size kind s.0 in
         let right : wrongKind kind ≡ false = rw (ne_eqb kind 0 (λ z. omega (arith, s.0)), le-ltb 14 kind s.1) in
-        let none : recordRefusal w last ≡ 0 = flaw-none last 0 (omega arith) right (omega arith) in
+        let none : recordRefusal w last ≡ 0 = flaw-none last (omega arith) right (omega arith) in
         let e : 2 + w ≡ 1 + w + 1 = omega arith in
         record {
           some = omega arith;
-          at = last-at last 0 none s.0 ∙ rw (byte-there last (1 + w) n rest behind-stop, read-back w stop (n ∷ rest) s.2);
+          at = last-at last none s.0 ∙ rw (byte-there last (1 + w) n rest behind-stop, read-back w stop (n ∷ rest) s.2);
           behind = rw (size, e, behind-byte last (1 + w) n rest behind-stop);
         }
 
@@ -256,36 +234,42 @@ module _ (w : ℕ) where
     there n h = write-back w (drop n s) (bytes-drop n s b) (rw length-drop (omega arith))
 
     byte : (n : ℕ) → n < length s → get_or s n 0 ∷ [] ≡ take 1 (drop n s)
-    byte n h = rw (suffix-in s n h)
+    byte n h = rw (drop_more s n 0 h)
+
+    take-front : (n : ℕ) → 0 < length s → take (suc n) s ≡ get_or s 0 0 ∷ take n (drop 1 s)
+    take-front n h = ap (take (suc n)) (drop_more s 0 0 h)
 
     join : (i n m : ℕ) → take n (drop i s) ++ take m (drop (i + n) s) ≡ take (n + m) (drop i s)
     join i n m = ap (λ t. take n (drop i s) ++ take m t) (sym (drop-drop n i s)) ∙ sym (take-add n m (drop i s))
 
-    module _ (at : ℕ) (e : recordRefusal w (drop at s) ≡ 0) where
-      pub sound : Sound w (recordAt w (drop at s))
+    module _ (e : recordRefusal w s ≡ 0) where
+      pub sound : Sound w (recordAt w s)
       sound =
-          let i = whole s at e in
-          either s at e (Sound w) (λ h. (i.from, h, (below (at + 1), below (at + 1 + w), below (at + 1 + 2 * w)))) (λ h. (h, i.to, below (at + 1)))
+          let i = whole s e in
+          either s e (Sound w) (λ h. (i.from, h, (below 1, below (1 + w), below (1 + 2 * w)))) (λ h. (h, i.to, below 1))
 
-      event-back : get_or s at 0 ≤ 12 → recordBytes w (eventAt s at) ≡ take (recordLength w (get_or s at 0)) (drop at s)
+      event-back : get_or s 0 0 ≤ 12 → recordBytes w (eventAt s) ≡ take (recordLength w (get_or s 0 0)) s
       unfolding recordBytes
       event-back h =
-          let f = event-fits s at e h in
-          let two : at + 1 + 2 * w ≡ at + 1 + w + w = omega arith in
-          let three : at + 1 + 3 * w ≡ at + 1 + w + w + w = omega arith in
+          let f = event-fits s e h in
+          let two : 1 + 2 * w ≡ 1 + w + w = omega arith in
+          let three : 1 + 3 * w ≡ 1 + w + w + w = omega arith in
           let all : 2 + 3 * w ≡ suc (w + (w + (w + 1))) = omega arith in
-          rw (event-size (get_or s at 0) h, all, suffix-in s at (omega arith), two, three)
-          (ap (λ t. get_or s at 0 ∷ t)
-          (rw (there (at + 1) (omega arith), there (at + 1 + w) (omega arith), there (at + 1 + w + w) (omega arith), byte (at + 1 + w + w + w) (omega arith))
-          (rw (join (at + 1 + w + w) w 1, join (at + 1 + w) w (w + 1), join (at + 1) w (w + (w + 1))))))
+          rw (event-size (get_or s 0 0) h, all, two, three, take-front (w + (w + (w + 1))) (omega arith))
+          (ap (λ t. get_or s 0 0 ∷ t)
+          (rw (there 1 (omega arith), there (1 + w) (omega arith), there (1 + w + w) (omega arith), byte (1 + w + w + w) (omega arith))
+          (rw (join (1 + w + w) w 1, join (1 + w) w (w + 1), join 1 w (w + (w + 1))))))
 
-      last-back : 12 < get_or s at 0 → recordBytes w (lastAt s at) ≡ take (recordLength w (get_or s at 0)) (drop at s)
+      last-back : 12 < get_or s 0 0 → recordBytes w (lastAt s) ≡ take (recordLength w (get_or s 0 0)) s
       unfolding recordBytes
       last-back h =
-          let f = last-fits s at e h in
+          let f = last-fits s e h in
           let all : 2 + w ≡ suc (w + 1) = omega arith in
-          rw (last-size (get_or s at 0) h, all, suffix-in s at (omega arith))
-          (ap (λ t. get_or s at 0 ∷ t) (rw (there (at + 1) (omega arith), byte (at + 1 + w) (omega arith)) (rw (join (at + 1) w 1))))
+          rw (last-size (get_or s 0 0) h, all, take-front (w + 1) (omega arith))
+          (ap (λ t. get_or s 0 0 ∷ t) (rw (there 1 (omega arith), byte (1 + w) (omega arith)) (rw (join 1 w 1))))
 
-      pub back : recordBytes w (recordAt w (drop at s)) ≡ take (recordLength w (get_or s at 0)) (drop at s)
-      back = either s at e (λ r. recordBytes w r ≡ take (recordLength w (get_or s at 0)) (drop at s)) event-back last-back
+      pub back : recordBytes w (recordAt w s) ≡ take (recordLength w (get_or s 0 0)) s
+      back = either s e (λ r. recordBytes w r ≡ take (recordLength w (get_or s 0 0)) s) event-back last-back
+
+-- what is known of a record with nothing wrong
+pub ruleset whole_there = (whole, event-fits, last-fits)

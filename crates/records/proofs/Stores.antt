@@ -1,38 +1,33 @@
 -- Laws of what a trace stores in a buffer: fields, the records that consist of them, and a record that is placed.
-use mathlib.Core.Path.{◌≡◌, ◌∙◌, ap}
-use mathlib.Core.Bool.{true, false}
-use mathlib.Core.List.{List, [], ◌∷◌, ◌++◌}
-use Prim.Native.Nat.{ℕ, suc, ◌+◌, ◌*◌, ◌-◌, ◌/◌, ◌%◌, ◌<◌, ◌≤◌}
-use native.Mathlib.Omega.{arith}
-use lib.Dec.{leb}
-use lib.ListN.{length, set}
-use borrow.Author.Tests.{le-leb}
+use Rattle.std.proofs.Common.{◌≡◌, refl, sym, ◌∙◌, ap, true, false, List, [], ◌∷◌, ◌++◌, append_assoc, ℕ, suc, ◌+◌, ◌*◌, ◌≤◌, arith, leb, length, take, drop, set, drop-drop, le-leb}
+use Rattle.std.proofs.lemmas.List.{length-set}
+use lib.Seq.{sets, sets-eq}
+use borrow.Rule.Slice.PartMut.{put_mid}
 use Rattle.lexical.specs.Buffer.{stored, Written}
-use Rattle.lexical.proofs.Stores.{single, second, stores, nothing-written}
-use Rattle.rules.specs.Trace.{field, eventRecord, lastRecord, refusedRecord, recordBytes}
-use Rattle.records.specs.declared.reader.Record.{Record}
-use Rattle.records.specs.declared.reader.Record.TheVariants.{Event, Last, Refused}
-use Rattle.records.specs.Answer.{recordOf}
+use Rattle.lexical.proofs.Stores.{single, second, stores, nothing-written, same}
+use Rattle.rules.specs.Trace.{field, eventRecord, lastRecord, recordBytes}
 use Rattle.records.specs.Writing.{placed}
 use Rattle.records.proofs.Fields.{field-length}
 use Rattle.records.proofs.Records.{event-bytes, last-bytes}
 
 -- ---- fields
--- one turn of a loop that stores a field
-pub field-turn : (l : List ℕ) (at width i rest : ℕ) → i < width
-    → stored (set l (at + i) (rest % 256)) (at + (i + 1)) (field (width - (i + 1)) (rest / 256)) ≡ stored l (at + i) (field (width - i) rest)
-unfolding field stored
-field-turn l at width i rest h =
-    let e : width - i ≡ suc (width - (i + 1)) = omega arith in
-    let p : at + (i + 1) ≡ suc (at + i) = omega arith in
-    rw (e, p)
+-- bytes that are put in the place of others
+is-sets : (l : List ℕ) (i : ℕ) (bs : List ℕ) → stored l i bs ≡ sets l i bs
+unfolding stored
+is-sets l i [] = refl
+is-sets l i (x ∷ bs) = is-sets (set l i x) (suc i) bs
 
-pub field-end : (l : List ℕ) (at width i rest : ℕ) → width ≤ i → stored l (at + i) (field (width - i) rest) ≡ l
-unfolding field stored
-field-end l at width i rest h = let e : width - i ≡ 0 = omega arith in rw e
-
-pub field-start : (l : List ℕ) (at width value : ℕ) → stored l (at + 0) (field (width - 0) value) ≡ stored l at (field width value)
-field-start l at width value = let a : at + 0 ≡ at = omega arith in let w : width - 0 ≡ width = omega arith in rw (a, w)
+pub field-put : (l : List ℕ) (at w n : ℕ) {k : ℕ} {bs : List ℕ} → k ≡ w → at + w ≤ length l → bs ≡ field w n → Written l at (field w n) (put_mid at k l bs)
+field-put l at w n {k} e h is =
+    let f = field w n in
+    let size = field-length w n in
+    record {
+      is = ap (put_mid at k l) is
+          ∙ ap (λ rest. take at l ++ (f ++ rest)) (drop-drop k at l ∙ ap (λ j. drop (at + j) l) (e ∙ sym size))
+          ∙ sym (append_assoc (take at l) f (drop (at + length f) l))
+          ∙ sym (sets-eq f l at (omega (arith, size)))
+          ∙ sym (is-sets l at f);
+    }
 
 -- a field at j, and then bytes behind it
 behind : (l : List ℕ) (j w n : ℕ) (b : List ℕ) → stored (stored l j (field w n)) (j + w) b ≡ stored l j (field w n ++ b)
@@ -74,32 +69,19 @@ module _ (w : ℕ) where
   pub last-steps : {l l1 : List ℕ} {at : ℕ} (kind stop n : ℕ) → Written (set l at kind) (at + 1) (field w stop) l1 → Written l at (recordBytes w (lastRecord kind stop n)) (set l1 (at + 1 + w) n)
   last-steps {l} {l1} {at} kind stop n e = record { is = rw e.is (last-stored l at kind stop n) }
 
-  pub nothing-of : {l : List ℕ} {at : ℕ} (n : ℕ) → Written l at (recordBytes w (refusedRecord n)) l
-  unfolding recordBytes
-  nothing-of n = nothing-written
-
--- ---- how much room a record takes, by its form
-module _ (w : ℕ) {given : Record} where
-  pub event-room : {kind line column index vs : ℕ} → given ≡ Event kind line column index vs → length (recordBytes w (recordOf given)) ≡ 2 + 3 * w
-  event-room {kind} {line} {column} {index} {vs} e = ap (λ r. length (recordBytes w (recordOf r))) e ∙ event-bytes w kind line column index vs
-
-  pub last-room : {kind stop value : ℕ} → given ≡ Last kind stop value → length (recordBytes w (recordOf given)) ≡ 2 + w
-  last-room {kind} {stop} {value} e = ap (λ r. length (recordBytes w (recordOf r))) e ∙ last-bytes w kind stop value
-
-  pub no-room : {refusal : ℕ} → given ≡ Refused refusal → length (recordBytes w (recordOf given)) ≡ 0
-  unfolding recordBytes
-  no-room e = ap (λ r. length (recordBytes w (recordOf r))) e
-
 -- ---- bytes that are placed
 module _ {old new : List ℕ} {at : ℕ} (bs : List ℕ) where
   pub placed-whole : at + length bs ≤ length old → Written old at (placed (length old) at bs) new → Written old at bs new
   unfolding placed
   placed-whole h w = rw (le-leb (at + length bs) (length old) h) at w
 
-  pub placed-in : leb (at + length bs) (length old) ≡ true → Written old at bs new → Written old at (placed (length old) at bs) new
+  pub placed-in : {n : ℕ} → length bs ≡ n → leb (at + n) (length old) ≡ true → Written old at bs new → Written old at (placed (length old) at bs) new
   unfolding placed
-  placed-in h w = rw h w
+  placed-in e h w = rw (e, h) w
 
-pub placed-not : {old : List ℕ} {at : ℕ} (bs : List ℕ) → leb (at + length bs) (length old) ≡ false → Written old at (placed (length old) at bs) old
+pub placed-not : {old : List ℕ} {at n : ℕ} (bs : List ℕ) → length bs ≡ n → leb (at + n) (length old) ≡ false → Written old at (placed (length old) at bs) old
 unfolding placed
-placed-not bs h = rw h nothing-written
+placed-not bs e h = rw (e, h) nothing-written
+
+-- there is room for each field, since storing keeps the length
+pub ruleset room_stays = (event-bytes, last-bytes, same, length-set)

@@ -1,25 +1,20 @@
--- Laws of walking over the records of a trace by their index: the record at an index, and those behind it; what is bad, what ends it; and that a trace which is
--- taken and its records are the same.
-use mathlib.Core.Path.{◌≡◌, refl, sym, ◌∙◌, ap}
-use mathlib.Core.Bool.{true, false}
-use mathlib.Core.List.{List, [], ◌∷◌, ◌++◌}
-use Prim.Native.Nat.{ℕ, zero, suc, ◌+◌, ◌*◌, ◌-◌, ◌<◌, ◌≤◌}
-use native.Mathlib.Omega.{arith}
-use native.Mathlib.Numerals.{lt_of_le_of_ne}
-use Rattle.std.proofs.Math.Nat.{suc-mul, zero-add}
-use lib.Dec.{eqb, leb, ltb}
-use lib.ListN.{length, get_or, take, drop, length-append, length-drop, take-append-drop}
-use lib.Seq.{drop-drop}
-use borrow.Author.Tests.{eqb-true, eqb-false, ltb-true, ltb-false}
+-- Laws of walking over the records of a trace: the record in front, and those behind it; what is bad, what ends it; and that a trace which is taken and its records
+-- are the same.
+use Rattle.std.proofs.Common.{◌≡◌, refl, sym, ◌∙◌, ap, true, false, List, [], ◌∷◌, ◌++◌, ℕ, zero, suc, ◌+◌, ◌*◌, ◌-◌, ◌<◌, ◌≤◌, arith, eqb, leb, length, get_or, take, drop, length-append, length-drop, take-append-drop, eqb-true}
+use Rattle.std.proofs.lemmas.List.{drop_all, drop_more}
+use Rattle.std.proofs.Math.Nat.{suc-mul}
+use borrow.Author.Tests.{eqb-false}
 use Rattle.std.specs.Prelude.{All}
 use Rattle.std.proofs.lemmas.List.Elements.{All-nil, All-cons, All-head, All-tail}
 use Rattle.lexical.proofs.Cases.{split}
-use Rattle.lexical.proofs.Suffix.{suffix-in, suffix-out, first-in}
-use Rattle.rules.specs.Refusal.{refusal}
+use Rattle.rules.specs.Refusal.{refusal, refusalNumber}
+use Rattle.rules.specs.declared.refusal.Refusal.{Refusal}
+use Rattle.rules.proofs.Refusals.{refusal-positive}
 use Rattle.rules.specs.Trace.{Record, eventRecord, lastRecord, refusedRecord, recordBytes, traceBytes, recordLength, recordRefusal, recordAt, unlessRefused, readTrace}
 use Rattle.records.specs.Records.{recordsFrom, records, badRecord, endsOnce}
 use Rattle.records.specs.Conversion.{areBytes}
-use Rattle.records.proofs.Records.{Sound, lastAt, whole, record-none, event-at, last-at, either, front, event-bytes, last-bytes, sound, back}
+use Rattle.records.proofs.Fields.{bytes-drop}
+use Rattle.records.proofs.Records.{Sound, lastAt, head, whole, record-none, event-at, last-at, either, front, event-bytes, last-bytes, sound, back}
 
 module _ (w : ℕ) where
   -- ---- the list of records
@@ -49,142 +44,125 @@ module _ (w : ℕ) where
       let rest = drop (recordLength w x) (x ∷ t) in
       ap (λ rs. recordAt w (x ∷ t) ∷ rs) (enough (length t) (length rest) rest (shorter x t) (omega arith))
 
-  records-none : records w [] ≡ []
-  unfolding records recordsFrom
-  records-none = refl
-
   module _ (s : List ℕ) where
-    -- where the record behind the one at an index begins
-    abbrev pub next : ℕ → ℕ
-    next at = at + recordLength w (get_or s at 0)
+    -- what stands behind the record in front
+    abbrev pub behind : List ℕ
+    behind = drop (recordLength w (get_or s 0 0)) s
 
-    pub forward : (at : ℕ) → at < next at
-    forward at = omega (arith, some-bytes (get_or s at 0))
+    pub forward : 0 < length s → length behind < length s
+    forward h = omega (arith, length-drop (recordLength w (get_or s 0 0)) s, some-bytes (get_or s 0 0))
 
-    pub records-in : (at : ℕ) → at < length s → records w (drop at s) ≡ recordAt w (drop at s) ∷ records w (drop (next at) s)
-    records-in at h =
-        let e = suffix-in s at h in
+    pub records-in : 0 < length s → records w s ≡ recordAt w s ∷ records w behind
+    records-in h =
+        let e = drop_more s 0 0 h in
         ap (records w) e
-        ∙ records-cons (get_or s at 0) (drop (at + 1) s)
-        ∙ ap (λ l. recordAt w l ∷ records w (drop (recordLength w (get_or s at 0)) l)) (sym e)
-        ∙ ap (λ l. recordAt w (drop at s) ∷ records w l) (drop-drop (recordLength w (get_or s at 0)) at s)
+        ∙ records-cons (get_or s 0 0) (drop 1 s)
+        ∙ ap (λ l. recordAt w l ∷ records w (drop (recordLength w (get_or s 0 0)) l)) (sym e)
 
-    pub records-out : (at : ℕ) → length s ≤ at → records w (drop at s) ≡ []
-    records-out at h = ap (records w) (suffix-out s at h) ∙ records-none
+    pub records-out : length s ≡ 0 → records w s ≡ []
+    unfolding records recordsFrom
+    records-out h = rw h
 
-    -- what holds at the end, and at a record where it holds behind it, holds from each index on
-    walk : (P : ℕ → Type 0) → ((at : ℕ) → length s ≤ at → P at) → ((at : ℕ) → at < length s → P (next at) → P at) → (at : ℕ) → P at
-    walk P end step at = go (length s) at (omega arith)
-      where
-        go : (n at : ℕ) → length s ≤ at + n → P at
-        go zero at h = end at (omega arith)
-        go (suc n) at h = split (ltb at (length s)) (λ t. step at (ltb-true at (length s) t) (go n (next at) (omega (arith, forward at)))) (λ t. end at (ltb-false at (length s) t))
+  -- what holds of no bytes, and of some where it holds behind the record in front, holds of any
+  walk : (P : List ℕ → Type 0) → ((s : List ℕ) → length s ≡ 0 → P s) → ((s : List ℕ) → 0 < length s → P (behind s) → P s) → (s : List ℕ) → P s
+  walk P end step s = go (length s) s (omega arith)
+    where
+      go : (n : ℕ) (s : List ℕ) → length s ≤ n → P s
+      go zero s h = end s (omega arith)
+      go (suc n) s h = split (eqb (length s) 0) (λ t. end s (eqb-true (length s) 0 t)) (λ t. let some = eqb-false (length s) 0 t in step s (omega arith) (go n (behind s) (omega (arith, forward s))))
 
-    -- ---- the first bad record
-    module _ (at : ℕ) where
-      pub bad-here : at < length s → (recordRefusal w (drop at s) ≡ 0 → ⊥) → badRecord (records w (drop at s)) ≡ recordRefusal w (drop at s)
-      unfolding badRecord
-      bad-here h f = ap badRecord (records-in at h) ∙ ap (λ r. badRecord (r ∷ records w (drop (next at) s))) (record-none w (drop at s) f)
+  -- ---- the first bad record
+  module _ (s : List ℕ) where
+    bad-flaw : 0 < length s → (recordRefusal w s ≡ 0 → ⊥) → badRecord (records w s) ≡ recordRefusal w s
+    unfolding badRecord
+    bad-flaw h f = ap badRecord (records-in s h) ∙ ap (λ r. badRecord (r ∷ records w (behind s))) (record-none w s f)
 
-      pub bad-on : recordRefusal w (drop at s) ≡ 0 → badRecord (records w (drop at s)) ≡ badRecord (records w (drop (next at) s))
-      unfolding badRecord
-      bad-on f =
-          let behind = records w (drop (next at) s) in
-          ap badRecord (records-in at (whole w s at f).starts) ∙ either w s at f (λ r. badRecord (r ∷ behind) ≡ badRecord behind) (λ k. refl) (λ k. refl)
+    pub bad-here : 0 < length s → (r : Refusal) → refusalNumber r ≡ recordRefusal w s → refusalNumber r ≡ badRecord (records w s)
+    bad-here h r e = e ∙ sym (bad-flaw h (λ z. refusal-positive r (e ∙ z)))
 
-      pub bad-out : length s ≤ at → badRecord (records w (drop at s)) ≡ 0
-      unfolding badRecord
-      bad-out h = ap badRecord (records-out at h)
+    pub bad-on : recordRefusal w s ≡ 0 → badRecord (records w s) ≡ badRecord (records w (behind s))
+    unfolding badRecord
+    bad-on f =
+        let rest = records w (behind s) in
+        ap badRecord (records-in s (whole w s f).starts) ∙ either w s f (λ r. badRecord (r ∷ rest) ≡ badRecord rest) (λ k. refl) (λ k. refl)
 
-      -- where no record is bad
-      module _ (h : at < length s) (none : badRecord (records w (drop at s)) ≡ 0) where
-        pub no-flaw : recordRefusal w (drop at s) ≡ 0
-        no-flaw =
-            split (eqb (recordRefusal w (drop at s)) 0) (λ e. eqb-true (recordRefusal w (drop at s)) 0 e)
-            (λ e. sym (bad-here h (eqb-false (recordRefusal w (drop at s)) 0 e)) ∙ none)
+    pub bad-out : length s ≡ 0 → badRecord (records w s) ≡ 0
+    unfolding badRecord
+    bad-out h = ap badRecord (records-out s h)
 
-        none-on : badRecord (records w (drop (next at) s)) ≡ 0
-        none-on = sym (bad-on no-flaw) ∙ none
+    -- where no record is bad
+    module _ (h : 0 < length s) (none : badRecord (records w s) ≡ 0) where
+      pub no-flaw : recordRefusal w s ≡ 0
+      no-flaw =
+          split (eqb (recordRefusal w s) 0) (λ e. eqb-true (recordRefusal w s) 0 e)
+          (λ e. sym (bad-flaw h (eqb-false (recordRefusal w s) 0 e)) ∙ none)
 
-        -- what ends them
-        pub ends-on : get_or s at 0 ≤ 12 → endsOnce (records w (drop at s)) ≡ endsOnce (records w (drop (next at) s))
-        unfolding endsOnce
-        ends-on k = ap endsOnce (records-in at h) ∙ ap (λ r. endsOnce (r ∷ records w (drop (next at) s))) (event-at w s at no-flaw k)
+      pub none-on : badRecord (records w (behind s)) ≡ 0
+      none-on = sym (bad-on no-flaw) ∙ none
 
-        pub ends-last : 12 < get_or s at 0 → eqb (next at) (length s) ≡ endsOnce (records w (drop at s))
-        unfolding endsOnce
-        ends-last k =
-            let is : records w (drop at s) ≡ lastAt w s at ∷ records w (drop (next at) s) = records-in at h ∙ ap (λ r. r ∷ records w (drop (next at) s)) (last-at w s at no-flaw k) in
-            let f = (whole w s at no-flaw).fits in
-            split (eqb (next at) (length s))
-            (λ e. e ∙ sym (ap endsOnce (is ∙ ap (λ l. lastAt w s at ∷ l) (records-out (next at) (omega (arith, eqb-true (next at) (length s) e))))))
-            (λ e. e ∙ sym (ap endsOnce (is ∙ ap (λ l. lastAt w s at ∷ l) (records-in (next at) (lt_of_le_of_ne f (eqb-false (next at) (length s) e))))))
-
-      pub ends-out : length s ≤ at → endsOnce (records w (drop at s)) ≡ false
+      -- what ends them
+      pub ends-on : get_or s 0 0 ≤ 12 → endsOnce (records w s) ≡ endsOnce (records w (behind s))
       unfolding endsOnce
-      ends-out h = ap endsOnce (records-out at h)
+      ends-on k = ap endsOnce (records-in s h) ∙ ap (λ r. endsOnce (r ∷ records w (behind s))) (event-at w s no-flaw k)
 
-    -- where a walk stands that meets no bad record
-    pub record Clear (at : ℕ) : Type 0 where
-      pub within : at ≤ length s
-      pub none : badRecord (records w (drop at s)) ≡ 0
+      pub ends-last : 12 < get_or s 0 0 → eqb (length (behind s)) 0 ≡ endsOnce (records w s)
+      unfolding endsOnce
+      ends-last k =
+          let is : records w s ≡ lastAt w s ∷ records w (behind s) = records-in s h ∙ ap (λ r. r ∷ records w (behind s)) (last-at w s no-flaw k) in
+          split (eqb (length (behind s)) 0)
+          (λ e. e ∙ sym (ap endsOnce (is ∙ ap (λ l. lastAt w s ∷ l) (records-out (behind s) (eqb-true (length (behind s)) 0 e)))))
+          (λ e. let some = eqb-false (length (behind s)) 0 e in e ∙ sym (ap endsOnce (is ∙ ap (λ l. lastAt w s ∷ l) (records-in (behind s) (omega arith)))))
 
-    pub clear-start : badRecord (records w s) ≡ 0 → Clear 0
-    clear-start e = record { within = omega arith; none = e }
+    pub ends-out : length s ≡ 0 → endsOnce (records w s) ≡ false
+    unfolding endsOnce
+    ends-out h = ap endsOnce (records-out s h)
 
-    module _ {at : ℕ} (clear : Clear at) (h : at < length s) where
-      pub clear-fits : next at ≤ length s
-      clear-fits = (whole w s at (no-flaw at h clear.none)).fits
+  -- ---- a trace with no bad record, of bytes: its records can be read, and give its bytes
+  pub written-back : (s : List ℕ) → areBytes s ≡ true → badRecord (records w s) ≡ 0 → traceBytes w (records w s) ≡ s
+  unfolding traceBytes
+  written-back =
+      walk (λ s. areBytes s ≡ true → badRecord (records w s) ≡ 0 → traceBytes w (records w s) ≡ s)
+      (λ s h b e. ap (traceBytes w) (records-out s h) ∙ sym (drop_all 0 s (omega arith)))
+      (λ s h go b e.
+      let k = recordLength w (get_or s 0 0) in
+      ap (traceBytes w) (records-in s h)
+      ∙ ap (λ t. t ++ traceBytes w (records w (behind s))) (back w s b (no-flaw s h e))
+      ∙ ap (λ t. take k s ++ t) (go (bytes-drop k s b) (none-on s h e))
+      ∙ take-append-drop k s)
 
-      pub clear-on : {n : ℕ} → n ≡ recordLength w (get_or s at 0) → Clear (at + n)
-      clear-on e = rw e (record { within = clear-fits; none = none-on at h clear.none })
+  pub all-sound : (s : List ℕ) → areBytes s ≡ true → badRecord (records w s) ≡ 0 → All (Sound w) (records w s)
+  all-sound =
+      walk (λ s. areBytes s ≡ true → badRecord (records w s) ≡ 0 → All (Sound w) (records w s))
+      (λ s h b e. rw (records-out s h) (All-nil (Sound w)))
+      (λ s h go b e.
+      rw (records-in s h)
+      (All-cons (Sound w) (recordAt w s) (records w (behind s)) (sound w s b (no-flaw s h e)) (go (bytes-drop (recordLength w (get_or s 0 0)) s b) (none-on s h e))))
 
-    -- ---- a trace with no bad record, of bytes: its records can be read, and give its bytes
-    module _ (b : areBytes s ≡ true) where
-      pub written-back : (at : ℕ) → badRecord (records w (drop at s)) ≡ 0 → traceBytes w (records w (drop at s)) ≡ drop at s
-      unfolding traceBytes
-      written-back =
-          walk (λ at. badRecord (records w (drop at s)) ≡ 0 → traceBytes w (records w (drop at s)) ≡ drop at s)
-          (λ at h e. ap (traceBytes w) (records-out at h) ∙ sym (suffix-out s at h))
-          (λ at h go e.
-          let k = recordLength w (get_or s at 0) in
-          ap (traceBytes w) (records-in at h)
-          ∙ ap (λ t. t ++ traceBytes w (records w (drop (next at) s))) (back w s b at (no-flaw at h e))
-          ∙ ap (λ t. take k (drop at s) ++ t) (go (none-on at h e) ∙ sym (drop-drop k at s))
-          ∙ take-append-drop k (drop at s))
+  -- ---- reading by number: with n > 0 to go, one less behind a record that is none of refusal
+  module _ (s : List ℕ) where
+    read-next : (n : ℕ) → 0 < length s → readTrace w (suc n) s ≡ unlessRefused (recordAt w s) (readTrace w n (behind s))
+    unfolding readTrace
+    read-next n h = rw (head w s h)
 
-      pub all-sound : (at : ℕ) → badRecord (records w (drop at s)) ≡ 0 → All (Sound w) (records w (drop at s))
-      all-sound =
-          walk (λ at. badRecord (records w (drop at s)) ≡ 0 → All (Sound w) (records w (drop at s)))
-          (λ at h e. rw (records-out at h) (All-nil (Sound w)))
-          (λ at h go e.
-          rw (records-in at h)
-          (All-cons (Sound w) (recordAt w (drop at s)) (records w (drop (next at) s)) (sound w s b at (no-flaw at h e)) (go (none-on at h e))))
+    pub read-on : (left : ℕ) → 0 < left → recordRefusal w s ≡ 0 → readTrace w left s ≡ readTrace w (left - 1) (behind s)
+    read-on left more e =
+        let rest = readTrace w (left - 1) (behind s) in
+        let one-more : left ≡ suc (left - 1) = omega arith in
+        ap (λ n. readTrace w n s) one-more
+        ∙ read-next (left - 1) (whole w s e).starts
+        ∙ either w s e (λ r. unlessRefused r rest ≡ rest) (λ k. refl) (λ k. refl)
 
-    -- ---- reading by number: with n > 0 to go, one less behind a record that is none of refusal
-    module _ (at : ℕ) where
-      read-next : (n : ℕ) → at < length s → readTrace w (suc n) (drop at s) ≡ unlessRefused (recordAt w (drop at s)) (readTrace w n (drop (next at) s))
-      unfolding readTrace
-      read-next n h = rw (first-in s at h, drop-drop (recordLength w (get_or s at 0)) at s)
+    pub read-stop : (left : ℕ) (r : Refusal) → refusalNumber r ≡ recordRefusal w s → refusedRecord (refusalNumber r) ≡ readTrace w left s
+    unfolding readTrace
+    read-stop left r e = rw e (sym (at-once left (record-none w s (λ z. refusal-positive r (e ∙ z)))))
+      where
+        at-once : (left : ℕ) → recordAt w s ≡ refusedRecord (recordRefusal w s) → readTrace w left s ≡ refusedRecord (recordRefusal w s)
+        at-once zero f = f
+        at-once (suc left) f = rw f
 
-      module _ (left : ℕ) (more : 0 < left) where
-        one-more : left ≡ suc (left - 1)
-        one-more = omega arith
-
-        pub read-on : recordRefusal w (drop at s) ≡ 0 → readTrace w left (drop at s) ≡ readTrace w (left - 1) (drop (next at) s)
-        read-on e =
-            let behind = readTrace w (left - 1) (drop (next at) s) in
-            ap (λ n. readTrace w n (drop at s)) one-more
-            ∙ read-next (left - 1) (whole w s at e).starts
-            ∙ either w s at e (λ r. unlessRefused r behind ≡ behind) (λ k. refl) (λ k. refl)
-
-        pub read-stop : (recordRefusal w (drop at s) ≡ 0 → ⊥) → readTrace w left (drop at s) ≡ refusedRecord (recordRefusal w (drop at s))
-        unfolding readTrace
-        read-stop f = rw (one-more, record-none w (drop at s) f)
-
-      pub read-here : (left : ℕ) → left ≡ 0 → readTrace w left (drop at s) ≡ recordAt w (drop at s)
-      unfolding readTrace
-      read-here left z = rw z
+    pub read-here : (left : ℕ) → left ≡ 0 → readTrace w left s ≡ recordAt w s
+    unfolding readTrace
+    read-here left z = rw z
 
   -- ---- reading by number is reading in the list
   abbrev pub nth : ℕ → List Record → Record
@@ -197,27 +175,22 @@ module _ (w : ℕ) where
   read-none zero = refl
   read-none (suc n) = refl
 
-  module _ (s : List ℕ) where
-    read-out : (n at : ℕ) → length s ≤ at → readTrace w n (drop at s) ≡ nth n (records w (drop at s))
-    read-out n at h = rw (records-out s at h, suffix-out s at h) (read-none n)
-
-    pub read-at : (n at : ℕ) → readTrace w n (drop at s) ≡ nth n (records w (drop at s))
-    unfolding readTrace
-    read-at zero at = split (ltb at (length s)) (λ t. sym (ap (nth zero) (records-in s at (ltb-true at (length s) t)))) (λ t. read-out zero at (ltb-false at (length s) t))
-    read-at (suc n) at =
-        split (ltb at (length s))
-        (λ t.
-        let h = ltb-true at (length s) t in
-        read-next s at n h ∙ ap (unlessRefused (recordAt w (drop at s))) (read-at n (next s at)) ∙ sym (ap (nth (suc n)) (records-in s at h)))
-        (λ t. read-out (suc n) at (ltb-false at (length s) t))
+  pub read-at : (n : ℕ) (s : List ℕ) → readTrace w n s ≡ nth n (records w s)
+  unfolding readTrace
+  read-at n [] = rw (records-out [] refl) (read-none n)
+  read-at zero (x ∷ t) = sym (ap (nth zero) (records-in (x ∷ t) (omega arith)))
+  read-at (suc n) (x ∷ t) =
+      read-next (x ∷ t) n (omega arith)
+      ∙ ap (unlessRefused (recordAt w (x ∷ t))) (read-at n (behind (x ∷ t)))
+      ∙ sym (ap (nth (suc n)) (records-in (x ∷ t) (omega arith)))
 
   -- ---- records that can be read, written one behind the other
   pub kept : (rs : List Record) → All (Sound w) rs → records w (traceBytes w rs) ≡ rs
   unfolding traceBytes
-  kept [] a = records-none
+  kept [] a = records-out [] refl
   kept (r ∷ rs) a =
       let f = front w r (traceBytes w rs) (All-head (Sound w) r rs a) in
-      records-in (recordBytes w r ++ traceBytes w rs) 0 f.some ∙ rw (zero-add, f.at, f.behind) (ap (λ q. r ∷ q) (kept rs (All-tail (Sound w) r rs a)))
+      records-in (recordBytes w r ++ traceBytes w rs) f.some ∙ rw (f.at, f.behind) (ap (λ q. r ∷ q) (kept rs (All-tail (Sound w) r rs a)))
 
   nth-sound : (rs : List Record) (n : ℕ) → All (Sound w) rs → nth n rs ≡ get_or rs n (refusedRecord 9)
   nth-sound [] n a = refl
@@ -227,7 +200,7 @@ module _ (w : ℕ) where
   nth-sound (refusedRecord m ∷ rs) (suc n) a = absurd (All-head (Sound w) (refusedRecord m) rs a)
 
   pub read-written : (rs : List Record) (n : ℕ) → All (Sound w) rs → readTrace w n (traceBytes w rs) ≡ get_or rs n (refusedRecord 9)
-  read-written rs n a = read-at (traceBytes w rs) n 0 ∙ ap (nth n) (kept rs a) ∙ nth-sound rs n a
+  read-written rs n a = read-at n (traceBytes w rs) ∙ ap (nth n) (kept rs a) ∙ nth-sound rs n a
 
   -- ---- so many bytes have records of which the last is the only one that is no event
   pub ended-length : (rs : List Record) → badRecord rs ≡ 0 → endsOnce rs ≡ true → length (traceBytes w rs) ≡ (length rs - 1) * (2 + 3 * w) + (2 + w)

@@ -1,4 +1,4 @@
--- Old traces across and back, 02, Ask 8.
+-- SCOPE, Old traces across and back.
 use Rattle.std.specs.Prelude.{ℕ, ◌+◌, ◌*◌, ◌-◌, ◌≡◌, Bool, true, false, ◌||◌, not, List, [], ◌∷◌, eqb, ltb, length}
 use Rattle.lexical.specs.Name.{all}
 use Rattle.rules.specs.Refusal.{check, refusal, outputRefusal}

@@ -1,4 +1,4 @@
--- A kept trace, 02, Ask 8: whole records, the last and only the last of kind 13 or 14; and what is wrong with one that is none.
+-- A kept trace, SCOPE, Old traces across and back: whole records, the last and only the last of kind 13 or 14; and what is wrong with one that is none.
 use Rattle.std.specs.Prelude.{ℕ, zero, suc, Bool, true, false, not, List, [], ◌∷◌, eqb, length, drop}
 use Rattle.rules.specs.Refusal.{check, refusal}
 use Rattle.rules.specs.Trace.{Record, eventRecord, lastRecord, refusedRecord, recordLength, recordAt}

@@ -1,4 +1,4 @@
--- Kept traces and what becomes of them, 02, Ask 8, four tables proved by one computed fact: the trace of `<b>` both ways, as 01 had it and as it is now; the refusals in
+-- Kept traces and what becomes of them, SCOPE, Old traces across and back, four tables proved by one computed fact: the trace of `<b>` both ways, as it was and as it is now; the refusals in
 -- their order; how long traces are; and that what is refused would not come back.
 use Rattle.std.specs.Prelude.{ℕ, ◌+◌, ◌*◌, ◌-◌, ◌≡◌, refl, Bool, true, not, List, [], ◌∷◌, ◌++◌, eqb, length}
 use Rattle.lexical.specs.Name.{all, sameBytes}

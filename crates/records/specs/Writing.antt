@@ -1,4 +1,4 @@
--- What writing a record leaves of a buffer. It need not be believed: of public contracts only that of `write_record` cites it.
+-- What writing a record leaves of a buffer. It need not be believed: of public contracts only those of `write_record`, `write_event` and `write_last` cite it.
 use Rattle.std.specs.Prelude.{ℕ, ◌+◌, List, [], leb, length}
 use Rattle.rules.specs.Search.{choose}
 

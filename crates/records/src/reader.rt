@@ -1,28 +1,39 @@
 // Reading a trace, record by record.
-ghost use Rattle.std.specs.Prelude.{◌≡◌, ◌+◌, ◌<◌, ◌≤◌, length, drop};
+ghost use Rattle.std.specs.Prelude.{◌≡◌, ◌+◌, ◌≤◌, length, drop, slice_index};
 ghost use Rattle.rules.specs.Trace.{wide, number as number_of, recordLength, recordRefusal, recordAt, readTrace};
-ghost use Rattle.records.specs.Answer.{recordOf};
+ghost use Rattle.rules.specs.Refusal.{refusalOf};
+ghost use Rattle.records.specs.Answer.{bytesOf, recordOf, numberOf, readOf};
 
-// 01, Traces, and 02, Ask 7: how many bytes line, column, index and stop have, low first; in a narrow trace and in a wide one.
-pub(crate) const NARROW: usize = 2;
+use crate::event::{Form, Kind, Name, event_number, event_of, form_of};
+use rules::refusal::Refusal;
 
-pub(crate) const WIDE: usize = 4;
+// How many bytes line, column, index and stop have, low first: in the traces that are written today four, in old ones two.
+#[derive(Clone, Copy, Debug, PartialEq, Eq)]
+pub(crate) enum Width {
+    Narrow = 2,
+    Wide = 4,
+}
 
-// The last kind of an event, and the last kind.
+impl Width {
+    pub(crate) fn bytes(self) -> usize
+        ensures is { result ≡ bytesOf self }
+        ensures few { (2 ≤ result) × (result ≤ 4) }
+    {
+        self as usize
+    }
+}
+
+// The last number of an event, and the last of all.
 pub(crate) const LAST_EVENT: u8 = 12;
 
 pub(crate) const LAST_KIND: u8 = 14;
 
-// 01, Where each refusal is met.
-const WRONG_KIND: u8 = 8;
-
-const CUT_OFF: u8 = 9;
-
-// A record of a trace, or the refusal of it.
-#[derive(Clone, Copy)]
+// A record of a trace.
+#[derive(Clone, Copy, Debug, PartialEq, Eq)]
 pub enum Record {
     Event {
-        kind: u8,
+        kind: Kind,
+        name: Name,
         line: usize,
         column: usize,
         index: usize,
@@ -30,99 +41,108 @@ pub enum Record {
     },
     // With the carry or the block kind.
     Last {
-        kind: u8,
+        form: Form,
         stop: usize,
         value: u8,
     },
-    Refused {
-        refusal: u8,
-    },
 }
 
-// The number in the bytes from an index on, low first.
-fn read_field(trace: &[u8], at: usize, width: usize) -> usize
-    requires few { width ≤ 4 }
-    requires within { at + width ≤ length trace.now }
-    ensures { result ≡ number_of width (drop at trace.now) }
-{
-    let mut value: usize = 0;
-    let mut i = width;
-    while 0 < i {
-        i -= 1;
-        value = value * 256 + trace[at + i] as usize;
+impl Record {
+    // Its first byte: of an event 1 to 12, of a last record 13 or 14.
+    pub fn number(self) -> u8
+        ensures { result ≡ numberOf self }
+    {
+        match self {
+            Record::Event { kind, name, .. } => event_number(kind, name),
+            Record::Last { form, .. } => form as u8,
+        }
     }
-    value
+}
+
+// The number in the bytes from an index on.
+fn read_field(trace: &[u8], at: usize, width: Width) -> usize
+    requires { at + bytesOf width ≤ length trace.now }
+    ensures { result ≡ number_of (bytesOf width) (drop at trace.now) }
+{
+    match width {
+        Width::Narrow => u16::from_le_bytes([trace[at], trace[at + 1]]) as usize,
+        Width::Wide => {
+            u32::from_le_bytes([trace[at], trace[at + 1], trace[at + 2], trace[at + 3]]) as usize
+        }
+    }
 }
 
 // The length of a record of a kind.
-pub(crate) fn record_length(kind: u8, width: usize) -> usize
-    requires { width ≤ 4 }
-    ensures { result ≡ recordLength width kind }
+pub(crate) fn record_length(kind: u8, width: Width) -> usize
+    ensures { result ≡ recordLength (bytesOf width) kind }
 {
     if kind <= LAST_EVENT {
-        return 2 + 3 * width;
+        return 2 + 3 * width.bytes();
     }
-    2 + width
+    2 + width.bytes()
 }
 
-// What is wrong with the record at an index, or 0.
-pub(crate) fn flaw(trace: &[u8], at: usize, width: usize) -> u8
-    requires { width ≤ 4 }
-    ensures { result ≡ recordRefusal width (drop at trace.now) }
+// Whether bytes begin with a record that is whole and of a kind.
+pub(crate) fn check_record(bytes: &[u8], width: Width) -> Result<(), Refusal>
+    ensures { refusalOf result ≡ recordRefusal (bytesOf width) bytes.now }
 {
-    if at >= trace.len() {
-        return CUT_OFF;
+    if bytes.is_empty() {
+        return Err(Refusal::CutOff);
     }
-    let kind = trace[at];
-    if (kind == 0) | (LAST_KIND < kind) {
-        return WRONG_KIND;
+    let number = bytes[0];
+    if (number == 0) | (LAST_KIND < number) {
+        return Err(Refusal::WrongKind);
     }
-    if trace.len() - at < record_length(kind, width) {
-        return CUT_OFF;
+    if bytes.len() < record_length(number, width) {
+        return Err(Refusal::CutOff);
     }
-    0
+    Ok(())
 }
 
-// The record at an index.
-pub(crate) fn record_at(trace: &[u8], at: usize, width: usize) -> Record
-    requires { width ≤ 4 }
-    ensures { recordOf result ≡ recordAt width (drop at trace.now) }
+// The record that bytes begin with, where nothing is wrong with it.
+#[tactic(auto, using(crate::proofs::Records::whole_there))]
+pub(crate) fn first_record(bytes: &[u8], width: Width) -> Record
+    requires { recordRefusal (bytesOf width) bytes.now ≡ 0 }
+    ensures { recordOf result ≡ recordAt (bytesOf width) bytes.now }
 {
-    let refusal = flaw(trace, at, width);
-    if refusal != 0 {
-        return Record::Refused { refusal };
-    }
-    let kind = trace[at];
-    let from = at + 1;
-    if kind <= LAST_EVENT {
+    let number = bytes[0];
+    let size = width.bytes();
+    if number <= LAST_EVENT {
+        let (kind, name) = event_of(number);
         return Record::Event {
             kind,
-            line: read_field(trace, from, width),
-            column: read_field(trace, from + width, width),
-            index: read_field(trace, from + 2 * width, width),
-            vs: trace[from + 3 * width],
+            name,
+            line: read_field(bytes, 1, width),
+            column: read_field(bytes, 1 + size, width),
+            index: read_field(bytes, 1 + 2 * size, width),
+            vs: bytes[1 + 3 * size],
         };
     }
     Record::Last {
-        kind,
-        stop: read_field(trace, from, width),
-        value: trace[from + width],
+        form: form_of(number),
+        stop: read_field(bytes, 1, width),
+        value: bytes[1 + size],
     }
 }
 
-// The record of a number, counted from 0, of a wide trace. The first bad record on the way decides.
-pub fn read_trace(trace: &[u8], number: usize) -> Record
-    ensures { recordOf result ≡ readTrace wide number trace.now }
+// What stands behind it.
+#[tactic(auto, using(crate::proofs::Records::whole_there))]
+pub(crate) fn behind_record(bytes: &[u8], width: Width) -> &[u8]
+    requires { recordRefusal (bytesOf width) bytes.now ≡ 0 }
+    ensures { result.now ≡ drop (recordLength (bytesOf width) (slice_index bytes.now 0)) bytes.now }
 {
-    let mut at = 0;
-    let mut left = number;
-    while 0 < left {
-        let refusal = flaw(trace, at, WIDE);
-        if refusal != 0 {
-            return Record::Refused { refusal };
-        }
-        at += record_length(trace[at], WIDE);
-        left -= 1;
+    &bytes[record_length(bytes[0], width)..]
+}
+
+// The record of a number, counted from 0, of a wide trace. The first bad record on the way decides.
+pub fn read_trace(trace: &[u8], number: usize) -> Result<Record, Refusal>
+    ensures { readOf result ≡ readTrace wide number trace.now }
+{
+    let mut rest = trace;
+    for _ in 0..number {
+        check_record(rest, Width::Wide)?;
+        rest = behind_record(rest, Width::Wide);
     }
-    record_at(trace, at, WIDE)
+    check_record(rest, Width::Wide)?;
+    Ok(first_record(rest, Width::Wide))
 }

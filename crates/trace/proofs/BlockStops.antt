@@ -1,13 +1,7 @@
 -- What an answer of the block scan says of the text: where a scan is not refused, the text is within the limit and the index within the text; a stop lies
 -- between the index and the end, because the lines from the index on have together the bytes from there on.
-use mathlib.Core.Path.{◌≡◌, refl, ◌∙◌}
-use mathlib.Core.Bool.{true, not}
-use mathlib.Core.List.{List, [], ◌∷◌}
-use Prim.Native.Nat.{ℕ, zero, suc, ◌+◌, ◌-◌, ◌<◌, ◌≤◌}
-use native.Mathlib.Omega.{arith}
-use lib.Dec.{eqb, ltb}
-use lib.ListN.{length, take, drop, length-drop}
-use borrow.Author.Tests.{eqb-false, ltb-true, ltb-false, not-false}
+use Rattle.std.proofs.Common.{◌≡◌, refl, sym, ◌∙◌, ap, true, not, List, [], ◌∷◌, ℕ, zero, suc, ◌+◌, ◌-◌, ◌<◌, ◌≤◌, arith, eqb, ltb, length, take, drop, length-drop, ltb-true, ltb-false}
+use borrow.Author.Tests.{eqb-false, not-false}
 use Rattle.lexical.specs.Text.{limit}
 use Rattle.lexical.specs.Line.{isLineStart, lineEndings}
 use Rattle.lexical.proofs.Cases.{split}
@@ -16,10 +10,10 @@ use Rattle.rules.specs.Reading.{crate as ofCrate}
 use Rattle.rules.specs.Refusal.{tooLong, wrongCount, wrongFlag, blockRefusal}
 use Rattle.rules.specs.Lines.{Line}
 use Rattle.rules.specs.Block.{kindOf, closes, extentOf, inLast, stopAfter}
-use Rattle.rules.specs.Scan.{Found, foundBlock, noBlock, refusedBlock, blockOf, linesAt, blockAt, blockScan}
+use Rattle.rules.specs.Scan.{Found, BlockAnswer, foundBlock, noBlock, refusedBlock, blockOf, linesAt, blockAt, blockScan}
 use Rattle.rules.specs.declared.Rules.{Rules}
-use Rattle.rules.proofs.Refusals.{not-met, given-passes, given-is, refused-by, refused-some}
-use Rattle.trace.proofs.Stops.{Between}
+use Rattle.rules.proofs.Refusals.{not-met, given-passes, given-is, refused-by}
+use Rattle.trace.proofs.Stops.{Between, Lies}
 use Rattle.rules.proofs.LineLaws.{sizes, lines-size, stop-from, stop-is}
 
 -- ---- the bytes of the lines from an index on
@@ -106,11 +100,6 @@ module _ (text flags : List ℕ) (i : ℕ) where
   block-refused-number n e =
       let f = refused-by refusedBlock (blockAt ofCrate text flags i) (refusedBlock n) (no-refusal (linesAt text flags i) n) (blockRefusal text flags i) e in cc
 
-  pub block-refused-some : (n : ℕ) → blockScan ofCrate text flags i ≡ refusedBlock n → n ≡ 0 → ⊥
-  unfolding blockScan blockAt
-  block-refused-some n e z =
-      refused-some refusedBlock (blockAt ofCrate text flags i) (refusedBlock n) (no-refusal (linesAt text flags i) n) (blockRefusal text flags i) e (block-refused-number n e ∙ z)
-
   found-no-refusal : (b : Found) (m : ℕ) → refusedBlock m ≡ foundBlock b → ⊥
   found-no-refusal b m e = let z : ◌≡◌ {A = ℕ} 0 1 = cc in omega arith
 
@@ -130,3 +119,13 @@ module _ (text flags : List ℕ) (i : ℕ) where
   pub block-none-passes : blockScan ofCrate text flags i ≡ noBlock → blockRefusal text flags i ≡ 0
   unfolding blockScan
   block-none-passes e = given-passes refusedBlock (blockAt ofCrate text flags i) noBlock none-no-refusal (blockRefusal text flags i) e
+
+  pub block-found-lies : (b : Found) → blockScan ofCrate text flags i ≡ foundBlock b → Lies text i b.stop
+  block-found-lies b e =
+      let m = block-admitted (block-found-passes b e) in
+      let w = block-between m.within b (block-found-at b e) in
+      record { small = m.small; from = w.from; to = w.to }
+
+  -- the reading of the crate is the one with all eight changes
+  pub block-scan-is : {ρ : Rules} {a : BlockAnswer} → ρ ≡ ofCrate → a ≡ blockScan ρ text flags i → blockScan ofCrate text flags i ≡ a
+  block-scan-is r e = sym (e ∙ ap (λ ρ. blockScan ρ text flags i) r)

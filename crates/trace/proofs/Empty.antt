@@ -1,13 +1,5 @@
 -- Where the last of the lines of a text has no bytes: the text is empty, or its last byte belongs to a line ending.
-use mathlib.Core.Path.{◌≡◌, refl, sym, ◌∙◌, ap}
-use mathlib.Core.Bool.{Bool, true, false, ◌&&◌, not}
-use mathlib.Core.List.{List, [], ◌∷◌}
-use Prim.Native.Nat.{ℕ, suc, ◌+◌, ◌-◌, ◌<◌, ◌≤◌}
-use native.Mathlib.Omega.{arith}
-use lib.Dec.{eqb, leb}
-use lib.ListN.{length, take, drop, get_or, length-drop}
-use lib.Seq.{get_or-drop, get_or-take, length-take-le}
-use borrow.Author.Tests.{eqb-true, ne_eqb, le-leb, lt-leb}
+use Rattle.std.proofs.Common.{◌≡◌, refl, sym, ◌∙◌, ap, Bool, true, false, ◌&&◌, not, List, [], ◌∷◌, ℕ, suc, ◌+◌, ◌-◌, ◌<◌, ◌≤◌, arith, eqb, leb, length, take, drop, get_or, length-drop, get_or-drop, get_or-take, length-take-le, eqb-true, ne_eqb}
 use Rattle.lexical.specs.Text.{byte}
 use Rattle.lexical.specs.Byte.{isLineEndingByte}
 use Rattle.lexical.specs.Line.{lineEnding}
@@ -80,21 +72,22 @@ module _ (text : List ℕ) (start stop : ℕ) where
 
 -- ---- where a block is left
 module _ (text : List ℕ) (start kind stop : ℕ) (closed : Bool) where
-  pub exit-late : 5 < kind → flowExit text start kind stop closed ≡ stop
+  pub exit-late : leb kind 5 ≡ false → flowExit text start kind stop closed ≡ stop
   unfolding flowExit
-  exit-late h = rw (lt-leb kind 5 h)
+  exit-late h = rw h
 
-  pub exit-closed : kind ≤ 5 → closed ≡ true → flowExit text start kind stop closed ≡ stop
-  unfolding flowExit
-  exit-closed h c = rw (le-leb kind 5 h, c)
+  module _ (h : leb kind 5 ≡ true) where
+    pub exit-closed : closed ≡ true → flowExit text start kind stop closed ≡ stop
+    unfolding flowExit
+    exit-closed c = rw (h, c)
 
-  pub exit-far : kind ≤ 5 → closed ≡ false → endsEmpty (taken text start stop) ≡ true → flowExit text start kind stop closed ≡ stop + lineEnding (drop stop text)
-  unfolding flowExit
-  exit-far h c e = rw (le-leb kind 5 h, c, e)
+    pub exit-far : closed ≡ false → endsEmpty (taken text start stop) ≡ true → flowExit text start kind stop closed ≡ stop + lineEnding (drop stop text)
+    unfolding flowExit
+    exit-far c e = rw (h, c, e)
 
-  pub exit-near : kind ≤ 5 → closed ≡ false → endsEmpty (taken text start stop) ≡ false → flowExit text start kind stop closed ≡ stop
-  unfolding flowExit
-  exit-near h c e = rw (le-leb kind 5 h, c, e)
+    pub exit-near : closed ≡ false → endsEmpty (taken text start stop) ≡ false → flowExit text start kind stop closed ≡ stop
+    unfolding flowExit
+    exit-near c e = rw (h, c, e)
 
   -- at the stop or behind it
   pub exit-from : stop ≤ flowExit text start kind stop closed

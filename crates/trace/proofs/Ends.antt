@@ -1,14 +1,6 @@
 -- What the machine takes ends in `>`, because only `endOf` ends a scan; and its first line has at least two bytes, because neither `<` nor what the machine
 -- goes on with behind it is a byte of a line ending, and neither ends the scan.
-use mathlib.Core.Path.{◌≡◌, refl, sym, ◌∙◌, ap}
-use mathlib.Core.Bool.{Bool, true, false}
-use mathlib.Core.List.{List, [], ◌∷◌}
-use Prim.Native.Nat.{ℕ, suc, ◌+◌, ◌-◌, ◌≤◌}
-use native.Mathlib.Omega.{arith}
-use lib.Dec.{eqb}
-use lib.ListN.{length, get_or, drop, length-drop}
-use lib.Seq.{drop-drop}
-use borrow.Author.Tests.{eqb-true}
+use Rattle.std.proofs.Common.{◌≡◌, refl, sym, ◌∙◌, ap, Bool, true, false, List, [], ◌∷◌, ℕ, suc, ◌+◌, ◌-◌, ◌≤◌, arith, eqb, length, get_or, drop, length-drop, drop-drop, eqb-true}
 use Rattle.lexical.specs.Text.{byte, first, pick, run}
 use Rattle.lexical.specs.Byte.{isLetter, isLineEndingByte}
 use Rattle.lexical.specs.Line.{lineLength}

@@ -1,120 +1,88 @@
 -- Laws of a whole piece: its events by walking are those of its lines.
-use mathlib.Core.Path.{◌≡◌, refl, sym, ◌∙◌, ap, subst}
-use mathlib.Core.Bool.{Bool, true, false, not}
-use mathlib.Core.List.{List, [], ◌∷◌, ◌++◌}
-use Prim.Native.Nat.{ℕ, suc, ◌+◌, ◌*◌, ◌-◌, ◌≤◌}
-use native.Mathlib.Omega.{arith}
-use lib.Dec.{eqb}
-use lib.ListN.{length, take, drop, length-append, length-drop}
-use lib.Seq.{drop-drop, length-take-le}
-use Rattle.lexical.specs.Text.{limit, byte}
-use Rattle.lexical.specs.Byte.{isLineEndingByte}
+use Rattle.std.proofs.Common.{◌≡◌, sym, ◌∙◌, ap, false, List, [], ◌∷◌, ◌++◌, ℕ, suc, ◌+◌, ◌*◌, ◌≤◌, arith, eqb, length, take, drop, length-append, drop-drop}
+use Rattle.lexical.specs.Text.{byte}
 use Rattle.lexical.specs.Line.{lineLength}
-use Rattle.lexical.specs.Point.{start, pointAt}
-use Rattle.lexical.specs.declared.event.Point.{Point}
-use Rattle.lexical.proofs.Moves.{point-start}
-use Rattle.lexical.proofs.Run.{run-length}
 use Rattle.lexical.proofs.Suffix.{drop-take}
 use Rattle.rules.specs.Lines.{cutLines}
-use Rattle.rules.specs.Trace.{Event, event, pair, pairOf, htmlText, htmlTextData, htmlFlow, htmlFlowData, textEvents, flowEvents, taken, flowExit, inlineRecords, flowRecords, inlineTrace}
-use Rattle.rules.specs.Scan.{foundInline}
+use Rattle.rules.specs.Trace.{event, pair, pairOf, htmlTextData, textEvents, flowEvents, taken, flowExit, inlineRecords, flowRecords, inlineTrace}
+use Rattle.rules.specs.Scan.{Found, foundInline}
 use Rattle.rules.proofs.Cut.{cut-first, content-length, run-content, run-within, space-apart}
+use Rattle.records.specs.Answer.{enterNumber, wholeOf, dataOf, formNumber}
+use Rattle.records.specs.declared.event.Name.{Name}
+use Rattle.records.specs.declared.event.Form.{Form}
+use Rattle.records.specs.declared.event.Form.TheVariants.{Text, Flow}
 use Rattle.trace.specs.Writing.{eventLength, lastLength, endedBytes, flowTrace}
-use Rattle.trace.specs.Walk.{restEvents, firstTo, indentTo, textPiece, flowPiece, penStart, Ready, Marked}
-use Rattle.trace.specs.declared.events.Pen.{Pen}
-use Rattle.trace.proofs.Outputs.{trace-length}
-
--- ---- from the first point on
-pub ready-start : {text : List ℕ} {index : ℕ} (p : Point) → p ≡ start → length text ≤ limit → index ≤ length text → Ready text (record { point = p; at = 0 }) index
-ready-start {text} {index} p e s w =
-    let z : p.index ≡ 0 = ap (λ q. q.index) e in
-    record { small = s; stands = e ∙ sym (point-start text) ∙ ap (pointAt text) (sym z); forward = omega arith; within = w }
-
-pub from-start : {text old new : List ℕ} {es : List Event} {r : Pen} (p : Point) → p ≡ start → Marked text (record { point = p; at = 0 }) es old new r → Marked text penStart es old new r
-from-start {text} {old} {new} {es} {r} p e m = subst (λ q. Marked text (record { point = q; at = 0 }) es old new r) e m
+use Rattle.trace.specs.Walk.{restEvents, firstTo, leadTo, pieceEvents, pieceTrace}
+use Rattle.trace.specs.declared.piece.Piece.{Piece}
+use Rattle.trace.proofs.Marks.{trace-length}
+use Rattle.trace.proofs.Walks.{none, first-within}
 
 -- ---- the first line
-pub first-within : (s : List ℕ) (i : ℕ) → i ≤ length s → firstTo s i ≤ length s
-first-within s i h = omega (arith, run-length (λ b. not (isLineEndingByte b)) (drop i s), length-drop i s)
+pub lead-from : (form : Form) (s : List ℕ) (i : ℕ) → i ≤ leadTo form s i
+lead-from Text s i = omega arith
+lead-from Flow s i = omega arith
 
--- ---- inline
-module _ (s : List ℕ) (i exit first x : ℕ) (f : first ≡ firstTo s i) (e : x ≡ first) where
-  pub text-piece : textPiece s i exit ≡ event htmlText i ∷ (pair htmlTextData i first ++ (restEvents false s x ++ (event (suc htmlText) exit ∷ [])))
-  unfolding textPiece
-  text-piece = rw (e, f)
+pub lead-within : (form : Form) (s : List ℕ) (i : ℕ) → leadTo form s i ≤ firstTo s i
+lead-within Text s i = omega arith
+lead-within Flow s i = omega (arith, run-within (λ b. eqb b (byte " ")) space-apart (drop i s))
 
-  pub text-piece-count : length (textPiece s i exit) ≡ 4 + length (restEvents false s x)
-  text-piece-count = omega (arith, ap length text-piece, length-append (restEvents false s x) (event (suc htmlText) exit ∷ []))
+-- ---- the events, by the numbers that are found on the way
+module _ (form : Form) (s : List ℕ) (i exit : ℕ) where
+  pub piece-is : {whole of-line : Name} {lead first x : ℕ} {front : List ℕ} → whole ≡ wholeOf form → of-line ≡ dataOf form → lead ≡ leadTo form s i → first ≡ firstTo s i
+      → front ≡ s → x ≡ first
+      → pieceEvents form s i exit
+      ≡ event (enterNumber whole) i
+      ∷ (pairOf (enterNumber of-line) i lead ++ (pair (enterNumber of-line) lead first ++ (restEvents form front x ++ (event (suc (enterNumber whole)) exit ∷ []))))
+  unfolding pieceEvents
+  piece-is w d l f b e = rw (e, b, f, l, d, w)
 
-pub text-events : (text : List ℕ) (i stop : ℕ) → i ≤ stop → textEvents i stop (taken text i stop) ≡ textPiece (take stop text) i stop
-unfolding textEvents textPiece restEvents
+  pub piece-count : length (pieceEvents form s i exit) ≡ 4 + length (pairOf (enterNumber (dataOf form)) i (leadTo form s i)) + length (restEvents form s (firstTo s i))
+  unfolding pieceEvents
+  piece-count =
+      let k = enterNumber (dataOf form) in
+      let lead = leadTo form s i in
+      let first = firstTo s i in
+      let rest = restEvents form s first in
+      let exits = event (suc (enterNumber (wholeOf form))) exit ∷ [] in
+      omega (arith, length-append (pairOf k i lead) (pair k lead first ++ (rest ++ exits)), length-append rest exits)
+
+-- there is room for each marking, and each is within the text
+pub ruleset piece_room = (piece-count, lead-from, lead-within, first-within)
+
+-- where a piece is left adds no event
+pub same-count : (form : Form) (s : List ℕ) (i a b : ℕ) → length (pieceEvents form s i a) ≡ length (pieceEvents form s i b)
+same-count form s i a b = piece-count form s i a ∙ sym (piece-count form s i b)
+
+-- ---- the events of the lines that were taken
+text-events : (text : List ℕ) (i stop : ℕ) → i ≤ stop → textEvents i stop (taken text i stop) ≡ pieceEvents Text (take stop text) i stop
+unfolding textEvents pieceEvents restEvents
 text-events text i stop h =
     let s = drop i (take stop text) in
     ap (λ t. textEvents i stop (cutLines false [] t)) (sym (drop-take i stop text))
-    ∙ rw (cut-first [] s, content-length s, drop-drop (lineLength s) i (take stop text))
+    ∙ rw (cut-first [] s, content-length s, drop-drop (lineLength s) i (take stop text), none htmlTextData i i (omega arith))
 
--- the trace of a piece that was found; F is the text before the stop
-module _ (text F : List ℕ) (i stop k : ℕ) (h : i ≤ stop) (w : stop ≤ length text) (e : F ≡ take (stop - 0) (drop 0 text)) where
-  front-is : F ≡ take stop text
-  front-is = let z : stop - 0 ≡ stop = omega arith in e ∙ ap (λ n. take n text) z
-
-  pub front-length : length F ≡ stop
-  front-length = ap length front-is ∙ length-take-le stop text w
-
-  pub text-trace : inlineTrace text i (foundInline stop k) ≡ endedBytes text (textPiece F i stop) 13 stop k
-  unfolding inlineRecords
-  text-trace = ap (λ es. endedBytes text es 13 stop k) (text-events text i stop h ∙ ap (λ s. textPiece s i stop) (sym front-is))
-
-  -- by the length that was counted
-  module _ (n : ℕ) (c : n ≡ eventLength * length (textPiece F i (length F)) + lastLength) where
-    pub text-size : n ≡ eventLength * length (textPiece F i stop) + lastLength
-    text-size = c ∙ ap (λ m. eventLength * length (textPiece F i m) + lastLength) front-length
-
-    pub text-trace-length : n ≡ length (inlineTrace text i (foundInline stop k))
-    text-trace-length = text-size ∙ sym (ap length text-trace ∙ trace-length text (textPiece F i stop) 13 stop k)
-
--- ---- blocks
-module _ (s : List ℕ) (i exit indent first x : ℕ) (n : indent ≡ indentTo s i) (f : first ≡ firstTo s i) (e : x ≡ first) where
-  pub flow-piece : flowPiece s i exit
-      ≡ event htmlFlow i ∷ (pairOf htmlFlowData i indent ++ (pair htmlFlowData indent first ++ (restEvents true s x ++ (event (suc htmlFlow) exit ∷ []))))
-  unfolding flowPiece
-  flow-piece = rw (e, f, n)
-
-  pub flow-piece-count : length (flowPiece s i exit) ≡ 4 + length (pairOf htmlFlowData i indent) + length (restEvents true s x)
-  flow-piece-count =
-      omega (
-        arith,
-        ap length flow-piece,
-        length-append (pairOf htmlFlowData i indent) (pair htmlFlowData indent first ++ (restEvents true s x ++ (event (suc htmlFlow) exit ∷ []))),
-        length-append (restEvents true s x) (event (suc htmlFlow) exit ∷ []),
-      )
-
-  pub indent-within : indent ≤ first
-  indent-within = omega (arith, run-within (λ b. eqb b (byte " ")) space-apart (drop i s))
-
-pub flow-events : (text : List ℕ) (i exit stop : ℕ) → i ≤ stop → flowEvents i exit (taken text i stop) ≡ flowPiece (take stop text) i exit
-unfolding flowEvents flowPiece restEvents
+flow-events : (text : List ℕ) (i exit stop : ℕ) → i ≤ stop → flowEvents i exit (taken text i stop) ≡ pieceEvents Flow (take stop text) i exit
+unfolding flowEvents pieceEvents restEvents
 flow-events text i exit stop h =
     let s = drop i (take stop text) in
     ap (λ t. flowEvents i exit (cutLines false [] t)) (sym (drop-take i stop text))
     ∙ rw (cut-first [] s, content-length s, run-content (λ b. eqb b (byte " ")) space-apart s, drop-drop (lineLength s) i (take stop text))
 
--- where a block is left adds no event
-same-count : (s : List ℕ) (i a b : ℕ) → length (flowPiece s i a) ≡ length (flowPiece s i b)
-same-count s i a b = flow-piece-count s i a _ _ _ refl refl refl ∙ sym (flow-piece-count s i b _ _ _ refl refl refl)
+-- ---- the traces
+abbrev pub textOf : ℕ → ℕ → ℕ → Piece
+textOf i stop carry = record { form = Text; index = i; stop = stop; exit = stop; value = carry }
 
--- the trace of a block that was found; F is the text before the stop
-module _ (text F : List ℕ) (i kind stop : ℕ) (closed : Bool) (h : i ≤ stop) (w : stop ≤ length text) (e : F ≡ take (stop - 0) (drop 0 text)) where
-  abbrev exit : ℕ
-  exit = flowExit text i kind stop closed
+abbrev pub flowOf : List ℕ → ℕ → Found → Piece
+flowOf text i b = record { form = Flow; index = i; stop = b.stop; exit = flowExit text i b.kind b.stop b.closed; value = b.kind }
 
-  pub flow-trace : flowTrace text i kind stop closed ≡ endedBytes text (flowPiece F i exit) 14 stop kind
-  unfolding flowRecords
-  flow-trace = ap (λ es. endedBytes text es 14 stop kind) (flow-events text i exit stop h ∙ ap (λ s. flowPiece s i exit) (sym (front-is text F i stop kind h w e)))
+pub text-trace : (text : List ℕ) (i stop carry : ℕ) → i ≤ stop → inlineTrace text i (foundInline stop carry) ≡ pieceTrace text (textOf i stop carry)
+unfolding inlineRecords pieceTrace
+text-trace text i stop carry h = ap (λ es. endedBytes text es 13 stop carry) (text-events text i stop h)
 
-  module _ (n : ℕ) (c : n ≡ eventLength * length (flowPiece F i 0) + lastLength) where
-    pub flow-size : n ≡ eventLength * length (flowPiece F i exit) + lastLength
-    flow-size = c ∙ ap (λ m. eventLength * m + lastLength) (same-count F i 0 exit)
+pub flow-trace : (text : List ℕ) (i : ℕ) (b : Found) → i ≤ b.stop → flowTrace text i b.kind b.stop b.closed ≡ pieceTrace text (flowOf text i b)
+unfolding flowRecords pieceTrace
+flow-trace text i b h = ap (λ es. endedBytes text es 14 b.stop b.kind) (flow-events text i (flowExit text i b.kind b.stop b.closed) b.stop h)
 
-    pub flow-trace-length : n ≡ length (flowTrace text i kind stop closed)
-    flow-trace-length = flow-size ∙ sym (ap length flow-trace ∙ trace-length text (flowPiece F i exit) 14 stop kind)
+pub piece-length : (text : List ℕ) (p : Piece) → length (pieceTrace text p) ≡ eventLength * length (pieceEvents p.form (take p.stop text) p.index p.exit) + lastLength
+unfolding pieceTrace
+piece-length text p = trace-length text (pieceEvents p.form (take p.stop text) p.index p.exit) (formNumber p.form) p.stop p.value

@@ -1,10 +1,6 @@
 -- A scan's trace reads back as its records: a scan that is not refused is of a text within the limit, its events stand within the text, and there line, column
 -- and index fit fields of four bytes.
-use mathlib.Core.Path.{◌≡◌, refl}
-use mathlib.Core.List.{List, [], ◌∷◌, ◌++◌}
-use Prim.Native.Nat.{ℕ, ◌≤◌}
-use native.Mathlib.Omega.{arith}
-use lib.ListN.{length}
+use Rattle.std.proofs.Common.{◌≡◌, refl, List, [], ◌∷◌, ◌++◌, ℕ, ◌≤◌, arith, length}
 use Rattle.std.specs.Prelude.{All}
 use Rattle.std.proofs.lemmas.List.Elements.{All-nil, All-cons, All-append, All-map, All-weaker}
 use Rattle.lexical.specs.Text.{limit}
@@ -17,8 +13,8 @@ use Rattle.rules.specs.ReadBack.{Fits, ReadsBack, TracesReadBack}
 use Rattle.rules.proofs.Events.{taken-size, Placed, AllPlaced, text-placed, flow-placed}
 use Rattle.records.proofs.Records.{Sound}
 use Rattle.records.proofs.Walks.{read-written}
-use Rattle.trace.proofs.Stops.{admitted, stop-between, found-passes, found-at, none-passes}
-use Rattle.trace.proofs.BlockStops.{block-admitted, block-between, block-found-passes, block-found-at, block-none-passes}
+use Rattle.trace.proofs.Stops.{admitted, found-lies, none-passes}
+use Rattle.trace.proofs.BlockStops.{block-admitted, block-found-lies, block-none-passes}
 use Rattle.trace.proofs.Empty.{exit-to}
 
 fitting : (r : Record) → Sound wide r → Fits wide r
@@ -52,9 +48,8 @@ module _ (text : List ℕ) (i k : ℕ) where
   inline-sound : (a : InlineAnswer) → inlineScan ofCrate text i k ≡ a → All (Sound wide) (inlineRecords text i a)
   unfolding inlineRecords
   inline-sound (foundInline stop c) e =
-      let m = admitted text i k (found-passes text i k stop c e) in
-      let b = stop-between text i k m.counted stop c (found-at text i k stop c e) in
-      ended-sound text m.small _ 13 stop c (text-placed (length text) i stop (taken text i stop) (omega (arith, taken-size text i stop b.from b.to)) b.to) (omega arith) (omega arith) b.to
+      let b = found-lies text i k stop c e in
+      ended-sound text b.small _ 13 stop c (text-placed (length text) i stop (taken text i stop) (omega (arith, taken-size text i stop b.from b.to)) b.to) (omega arith) (omega arith) b.to
   inline-sound (noInline c) e =
       let m = admitted text i k (none-passes text i k c e) in
       last-sound text m.small 13 i c (omega arith) (omega arith) m.within
@@ -64,9 +59,8 @@ module _ (text flags : List ℕ) (i : ℕ) where
   block-sound : (a : BlockAnswer) → blockScan ofCrate text flags i ≡ a → All (Sound wide) (blockRecords text i a)
   unfolding blockRecords flowRecords
   block-sound (foundBlock f) e =
-      let m = block-admitted text flags i (block-found-passes text flags i f e) in
-      let b = block-between text flags i m.within f (block-found-at text flags i f e) in
-      ended-sound text m.small _ 14 f.stop f.kind
+      let b = block-found-lies text flags i f e in
+      ended-sound text b.small _ 14 f.stop f.kind
       (flow-placed (length text) i _ (taken text i f.stop) (omega (arith, taken-size text i f.stop b.from b.to)) (exit-to text i f.kind f.stop f.closed b.to)) (omega arith) (omega arith) b.to
   block-sound noBlock e =
       let m = block-admitted text flags i (block-none-passes text flags i e) in

@@ -1,14 +1,6 @@
 -- Room for two records for each byte of a text, and for a last one, suffices: what a scan finds has two bytes in its first line, in a block behind the
 -- indentation; and no line behind an ending of an inline piece is blank, since the text has no blank line and the piece ends in `>`.
-use mathlib.Core.Path.{◌≡◌, refl, sym, ◌∙◌, ap}
-use mathlib.Core.Bool.{false, not}
-use mathlib.Core.List.{List, [], ◌∷◌}
-use Prim.Native.Nat.{ℕ, suc, ◌+◌, ◌*◌, ◌-◌, ◌<◌, ◌≤◌}
-use native.Mathlib.Omega.{arith}
-use lib.Dec.{eqb, ltb, leb}
-use lib.ListN.{length, get_or, take, drop, length-drop}
-use lib.Seq.{length-take-le}
-use borrow.Author.Tests.{eqb-true, ltb-true, ltb-false}
+use Rattle.std.proofs.Common.{◌≡◌, refl, sym, ◌∙◌, ap, false, not, List, [], ◌∷◌, ℕ, suc, ◌+◌, ◌*◌, ◌-◌, ◌<◌, ◌≤◌, arith, eqb, ltb, leb, length, get_or, take, drop, length-drop, length-take-le, eqb-true, ltb-true, ltb-false}
 use Rattle.lexical.specs.Text.{byte, run}
 use Rattle.lexical.specs.Byte.{isSpaceOrTab, isLineEndingByte, isWhitespace}
 use Rattle.lexical.specs.Line.{lineEnding, lineEndings, lineLength}
@@ -29,17 +21,13 @@ use Rattle.rules.proofs.Fronts.{run-front, run-least, lastOr, last-front}
 use Rattle.rules.proofs.Blanks.{no-blank-front, not-blank, some-data}
 use Rattle.records.proofs.Records.{last-bytes, one-record}
 use Rattle.flow.proofs.OpenMeans.{nothing-kind, not-opened, nothing-opened}
-use Rattle.trace.specs.Walk.{textPiece, flowPiece}
-use Rattle.trace.proofs.Outputs.{trace-length}
-use Rattle.trace.proofs.Pieces.{text-trace, flow-trace}
+use Rattle.records.specs.declared.event.Form.TheVariants.{Text, Flow}
+use Rattle.trace.specs.Walk.{pieceEvents}
+use Rattle.trace.proofs.Pieces.{textOf, flowOf, text-trace, flow-trace, piece-length}
 use Rattle.trace.proofs.Stops.{admitted, found-passes, found-at}
-use Rattle.trace.proofs.BlockStops.{begun, block-admitted, block-between, block-found-passes, block-found-at}
+use Rattle.trace.proofs.BlockStops.{begun, block-admitted, block-found-lies, block-found-passes, block-found-at}
 use Rattle.trace.proofs.Ends.{Opened, opened}
-use Rattle.trace.proofs.Counts.{text-piece-most, flow-piece-most}
-
--- the front that a piece ends, as its trace has it
-front-is : (text : List ℕ) (stop : ℕ) → take stop text ≡ take (stop - 0) (drop 0 text)
-front-is text stop = let z : stop ≡ stop - 0 = omega arith in ap (λ n. take n text) z
+use Rattle.trace.proofs.Counts.{piece-most}
 
 -- a trace of only a last record
 last-most : (kind stop c n : ℕ) → length (traceBytes wide (lastRecord kind stop c ∷ [])) ≤ 28 * n + 6
@@ -73,11 +61,11 @@ module _ (text : List ℕ) (i stop : ℕ) (o : Opened text i stop) where
     lines-solid : (j : ℕ) → j ≤ length F → (lineEnding (drop j F) ≡ 0 → ⊥) → run isSpaceOrTab (drop (lineFrom F j) F) < lineLength (drop (lineFrom F j) F)
     lines-solid j h e = some-data (drop (lineFrom F j) F) (not-blank F j (no-blank-front stop text filled) last-solid h e)
 
-    text-most : length (textPiece F i stop) ≤ 2 * length text
+    text-most : length (pieceEvents Text F i stop) ≤ 2 * length text
     text-most =
         let f = o.far in
         let t = o.to in
-        omega (arith, text-piece-most F i stop lines-solid (omega (arith, front-length)) first-long, front-length)
+        omega (arith, piece-most Text F lines-solid i stop (omega (arith, front-length)) (omega (arith, first-long)), front-length)
 
 module _ (text : List ℕ) (i k : ℕ) where
   inline-most : (a : InlineAnswer) → inlineScan ofCrate text i k ≡ a → length (inlineTrace text i a) ≤ 28 * length text + 6
@@ -88,8 +76,8 @@ module _ (text : List ℕ) (i k : ℕ) where
       let f = o.far in
       omega (
         arith,
-        ap length (text-trace text (take stop text) i stop c (omega arith) o.to (front-is text stop)),
-        trace-length text (textPiece (take stop text) i stop) 13 stop c,
+        ap length (text-trace text i stop c (omega arith)),
+        piece-length text (textOf i stop c),
         text-most text i stop o m.filled,
       )
   inline-most (noInline c) e = last-most 13 i c (length text)
@@ -129,7 +117,7 @@ module _ (text flags : List ℕ) (i : ℕ) where
 
   -- the first line of the front is that of the text
   flow-most : (stop exit : ℕ) → FirstLine (contentFrom text i) i stop → i ≤ length text → stop ≤ length text
-      → length (flowPiece (take stop text) i exit) ≤ 2 * length text
+      → length (pieceEvents Flow (take stop text) i exit) ≤ 2 * length text
   flow-most stop exit b h w =
       let s = drop i text in
       let F = take stop text in
@@ -141,20 +129,19 @@ module _ (text flags : List ℕ) (i : ℕ) where
       let inner = run-content (λ x. eqb x (byte " ")) space-apart s in
       let line-is = ap lineLength cut ∙ run-front (λ x. not (isLineEndingByte x)) (stop - i) s (omega arith) in
       let indent-is = ap indentation cut ∙ run-front (λ x. eqb x (byte " ")) (stop - i) s (omega (arith, run-within (λ x. eqb x (byte " ")) space-apart s)) in
-      omega (arith, flow-piece-most F i exit (omega arith) (omega arith))
+      omega (arith, piece-most Flow F (λ j g e. tt) i exit (omega arith) (omega arith))
 
   block-most : (a : BlockAnswer) → blockScan ofCrate text flags i ≡ a → length (blockTrace text i a) ≤ 28 * length text + 6
   unfolding blockRecords traceBytes
   block-most (foundBlock b) e =
       let m = block-admitted text flags i (block-found-passes text flags i b e) in
       let at = block-found-at text flags i b e in
-      let w = block-between text flags i m.within b at in
-      let F = take b.stop text in
+      let w = block-found-lies text flags i b e in
       let exit = flowExit text i b.kind b.stop b.closed in
       omega (
         arith,
-        ap length (flow-trace text F i b.kind b.stop b.closed w.from w.to (front-is text b.stop)),
-        trace-length text (flowPiece F i exit) 14 b.stop b.kind,
+        ap length (flow-trace text i b w.from),
+        piece-length text (flowOf text i b),
         flow-most b.stop exit (begun-at b at) m.within w.to,
       )
   block-most noBlock e = last-most 14 i 0 (length text)

@@ -1,80 +1,59 @@
--- The loop over lines: what is still to be marked at the pen, stored there, gives what was to be marked at the start.
-use mathlib.Core.Path.{◌≡◌, refl, sym, ◌∙◌, ap}
-use mathlib.Core.Bool.{Bool}
-use mathlib.Core.List.{List}
-use Prim.Native.Nat.{ℕ, ◌+◌, ◌*◌, ◌<◌, ◌≤◌}
-use native.Mathlib.Omega.{arith}
-use lib.ListN.{length, drop, length-append}
+-- The loop over lines: what was marked, and the lines that are left at the pen, are what was to be marked at the start.
+use Rattle.std.proofs.Common.{◌≡◌, refl, sym, ◌∙◌, ap, List, [], ◌++◌, append_assoc, append-nil, ℕ, ◌+◌, ◌*◌, ◌<◌, ◌≤◌, arith, length, drop, length-append}
 use Rattle.lexical.specs.Line.{lineEnding}
-use Rattle.lexical.specs.Point.{pointAt}
-use Rattle.rules.specs.Trace.{Event, traceBytes}
+use Rattle.rules.specs.Trace.{Event}
 use Rattle.rules.proofs.Cut.{lineTo, to-within}
-use Rattle.lexical.specs.Buffer.{stored}
-use Rattle.trace.specs.Writing.{eventLength, eventBytes}
-use Rattle.trace.specs.Walk.{lineEvents, restEvents, Marked}
-use Rattle.trace.specs.declared.events.Pen.{Pen}
-use Rattle.lexical.proofs.Stores.{stores, same}
-use Rattle.trace.proofs.Marks.{events-length, events-append}
+use Rattle.records.specs.declared.event.Form.{Form}
+use Rattle.trace.specs.Writing.{eventLength}
+use Rattle.trace.specs.Walk.{lineEvents, restEvents}
+use Rattle.trace.specs.Marking.{Marked}
+use Rattle.trace.specs.declared.pen.Pen.{Pen}
+use Rattle.trace.proofs.Marks.{and-then, renamed, marked-none}
 use Rattle.trace.proofs.Walks.{rest-one, rest-none}
 
-pub record Left (text front : List ℕ) (flow : Bool) (start : Pen) (old : List ℕ) (pen : Pen) (now : List ℕ) : Type 0 where
-  pub bytes :
-      stored now pen.at (eventBytes text (restEvents flow front pen.point.index)) ≡ stored old start.at (eventBytes text (restEvents flow front start.point.index))
-  pub end : pen.at + eventLength * length (restEvents flow front pen.point.index) ≡ start.at + eventLength * length (restEvents flow front start.point.index)
-  pub size : length now ≡ length old
-  pub stands : pen.point ≡ pointAt text pen.point.index
-  pub within : pen.point.index ≤ length front
+-- the events of the line at the pen, and of it and all behind it
+abbrev pub line : Form → Pen → List Event
+line form pen = lineEvents form pen.front.now pen.point.index
 
--- the events of the line at the pen, and of those behind it
-abbrev line : List ℕ → Bool → Pen → List Event
-line front flow pen = lineEvents flow front pen.point.index
+abbrev pub rest : Form → Pen → List Event
+rest form pen = restEvents form pen.front.now pen.point.index
 
-abbrev rest : List ℕ → Bool → Pen → List Event
-rest front flow pen = restEvents flow front (lineTo front pen.point.index)
+pub record Left (form : Form) (start pen : Pen) : Type 0 where
+  pub done : List Event
+  pub marked : Marked start done pen
+  pub whole : rest form start ≡ done ++ rest form pen
+  pub within : pen.point.index ≤ length pen.front.now
 
-pub left-start : {text front : List ℕ} {flow : Bool} {pen : Pen} {old : List ℕ} → pen.point ≡ pointAt text pen.point.index → pen.point.index ≤ length front
-    → Left text front flow pen old pen old
-left-start s w = record { bytes = refl; end = refl; size = refl; stands = s; within = w }
+pub left-start : {form : Form} {pen : Pen} → pen.point.index ≤ length pen.front.now → Left form pen pen
+left-start {form} {pen} w = record { done = []; marked = marked-none pen; whole = refl; within = w }
 
--- one line further
-pub left-on : {text front : List ℕ} {flow : Bool} {start pen next : Pen} {old mid new : List ℕ} → Left text front flow start old pen mid
-    → (lineEnding (drop pen.point.index front) ≡ 0 → ⊥) → Marked text pen (line front flow pen) mid new next → next.point.index ≡ lineTo front pen.point.index
-    → Left text front flow start old next new
-left-on {text} {front} {flow} {start} {pen} {next} {old} {mid} {new} l h m e =
-    let a = line front flow pen in
-    let b = rest front flow pen in
-    let one = rest-one front pen.point.index flow h in
-    let at : next.at ≡ pen.at + length (eventBytes text a) = m.at-is ∙ ap (λ n. pen.at + n) (sym (events-length text a)) in
-    record {
-      bytes =
-          ap (λ j. stored new next.at (eventBytes text (restEvents flow front j))) e
-          ∙ ap (λ o. stored o next.at (eventBytes text b)) m.bytes.is
-          ∙ stores mid pen.at next.at (eventBytes text a) (eventBytes text b) at
-          ∙ ap (λ o. stored mid pen.at o) (sym (events-append text a b) ∙ ap (eventBytes text) (sym one))
-          ∙ l.bytes;
-      end = omega (arith, l.end, m.at-is, ap length one, length-append a b, ap (λ j. length (restEvents flow front j)) e);
-      size = same m.bytes ∙ l.size;
-      stands = m.stands;
-      within = omega (arith, e, to-within front pen.point.index l.within);
-    }
+module _ {form : Form} {start pen : Pen} (l : Left form start pen) where
+  module _ (h : lineEnding (drop pen.point.index pen.front.now) ≡ 0 → ⊥) where
+    abbrev behind : List Event
+    behind = restEvents form pen.front.now (lineTo pen.front.now pen.point.index)
 
--- there is room for the line at the pen
-pub left-room : {text front : List ℕ} {flow : Bool} {start pen : Pen} {old mid : List ℕ} → Left text front flow start old pen mid → (lineEnding (drop pen.point.index front) ≡ 0 → ⊥)
-    → start.at + eventLength * length (restEvents flow front start.point.index) ≤ length old → pen.at + eventLength * length (line front flow pen) ≤ length mid
-left-room {text} {front} {flow} {start} {pen} {old} {mid} l h r =
-    omega (arith, l.end, l.size, ap length (rest-one front pen.point.index flow h), length-append (line front flow pen) (rest front flow pen))
+    one : rest form pen ≡ line form pen ++ behind
+    one = rest-one pen.front.now pen.point.index form h
 
--- no line is left
-pub left-none : {text front : List ℕ} {flow : Bool} {start pen : Pen} {old new : List ℕ} → Left text front flow start old pen new → lineEnding (drop pen.point.index front) ≡ 0
-    → Marked text start (restEvents flow front start.point.index) old new pen
-unfolding stored traceBytes
-left-none {text} {front} {flow} {start} {pen} {old} {new} l e =
-    let z = rest-none front pen.point.index flow e in
-    record {
-      bytes = record { is = ap (λ es. stored new pen.at (eventBytes text es)) (sym z) ∙ l.bytes };
-      at-is = omega (arith, l.end, ap length z);
-      stands = l.stands;
-    }
+    -- one line further
+    pub left-on : {next : Pen} → Marked pen (line form pen) next → next.point.index ≡ lineTo pen.front.now pen.point.index → Left form start next
+    left-on {next} m e =
+        let same : rest form next ≡ behind = rw (m.kept.front, e) in
+        record {
+          done = l.done ++ line form pen;
+          marked = and-then l.marked m;
+          whole = l.whole ∙ ap (λ es. l.done ++ es) (one ∙ ap (λ es. line form pen ++ es) (sym same)) ∙ sym (append_assoc l.done (line form pen) (rest form next));
+          within = rw m.kept.front (omega (arith, e, to-within pen.front.now pen.point.index l.within));
+        }
+
+    -- there is room for the line at the pen
+    pub left-room : start.at + eventLength * length (rest form start) ≤ length start.out.now → pen.at + eventLength * length (line form pen) ≤ length pen.out.now
+    left-room r =
+        omega (arith, r, l.marked.at-is, l.marked.kept.size, ap length l.whole, length-append l.done (rest form pen), ap length one, length-append (line form pen) behind)
+
+  -- no line is left
+  pub left-none : lineEnding (drop pen.point.index pen.front.now) ≡ 0 → Marked start (rest form start) pen
+  left-none e = renamed (rest form start) (l.whole ∙ ap (λ es. l.done ++ es) (rest-none pen.front.now pen.point.index form e) ∙ append-nil l.done) l.marked
 
 -- a line has a byte at least
 pub further : (front : List ℕ) (i : ℕ) → (lineEnding (drop i front) ≡ 0 → ⊥) → i < lineTo front i
@@ -85,7 +64,7 @@ pub met : (r n : ℕ) → r ≡ n → 0 < r → (n ≡ 0 → ⊥)
 met r n e h z = omega arith
 
 -- the events of one line more are counted
-pub count-on : (front : List ℕ) (flow : Bool) (i j count n total : ℕ) → (lineEnding (drop i front) ≡ 0 → ⊥) → n ≡ length (lineEvents flow front i) → j ≡ lineTo front i
-    → count + length (restEvents flow front i) ≡ total → count + n + length (restEvents flow front j) ≡ total
-count-on front flow i j count n total h e t c =
-    omega (arith, ap length (rest-one front i flow h), length-append (lineEvents flow front i) (restEvents flow front (lineTo front i)), ap (λ k. length (restEvents flow front k)) t)
+pub count-on : (front : List ℕ) (form : Form) (i j count n total : ℕ) → (lineEnding (drop i front) ≡ 0 → ⊥) → n ≡ length (lineEvents form front i) → j ≡ lineTo front i
+    → count + length (restEvents form front i) ≡ total → count + n + length (restEvents form front j) ≡ total
+count-on front form i j count n total h e t c =
+    omega (arith, ap length (rest-one front i form h), length-append (lineEvents form front i) (restEvents form front (lineTo front i)), ap (λ k. length (restEvents form front k)) t)

@@ -1,19 +1,15 @@
--- Laws of walking over lines: the numbers of a line in order, its events by them, and the events of all lines as those of one and of the rest.
-use mathlib.Core.Path.{◌≡◌, refl, ◌∙◌, ap}
-use mathlib.Core.Bool.{Bool, true, false}
-use mathlib.Core.List.{List, [], ◌++◌, append_assoc}
-use Prim.Native.Nat.{ℕ, ◌+◌, ◌<◌, ◌≤◌}
-use native.Mathlib.Omega.{arith}
-use lib.Dec.{ltb}
-use lib.ListN.{length, take, drop, length-append}
-use borrow.Author.Tests.{lt-ltb, le-ltb}
-use Rattle.lexical.specs.Text.{run}
-use Rattle.lexical.specs.Byte.{isSpaceOrTab}
-use Rattle.lexical.specs.Line.{lineEnding, lineLength}
-use Rattle.lexical.proofs.Cases.{split}
+-- Laws of walking over lines: the numbers of a line in order, how many events it has, and the events of all lines as those of one and of the rest.
+use Rattle.std.proofs.Common.{◌≡◌, refl, ap, List, [], ◌++◌, append_assoc, ℕ, ◌+◌, ◌<◌, ◌≤◌, arith, length, take, drop, length-append, length-drop, lt-ltb, le-ltb, not}
+use Rattle.lexical.specs.Byte.{isSpaceOrTab, isLineEndingByte}
+use Rattle.lexical.specs.Line.{lineEnding}
+use Rattle.lexical.proofs.Run.{run-length}
+use Rattle.lexical.proofs.Ending.{ending-within}
 use Rattle.rules.specs.Trace.{pair, pairOf, spaceOrTab, htmlFlowData, htmlTextData, lineEndingKind, textLines, flowLines}
-use Rattle.rules.proofs.Cut.{behind, behind-none, behind-one, lineFrom, lineTo, to-within, run-within, blank-apart, run-content, content-length, lead-length}
-use Rattle.trace.specs.Walk.{dataFrom, textLine, flowLine, lineEvents, restEvents}
+use Rattle.rules.proofs.Cut.{behind, behind-none, behind-one, lineFrom, lineTo, run-within, blank-apart, run-content, content-length, lead-length}
+use Rattle.records.specs.declared.event.Form.{Form}
+use Rattle.records.specs.declared.event.Form.TheVariants.{Text, Flow}
+use Rattle.trace.specs.declared.pen.Pen.{Pen}
+use Rattle.trace.specs.Walk.{firstTo, dataFrom, dataEvents, lineEvents, restEvents}
 
 pub some : (k i j : ℕ) → i < j → pairOf k i j ≡ pair k i j
 some k i j h = rw (lt-ltb i j h)
@@ -21,86 +17,61 @@ some k i j h = rw (lt-ltb i j h)
 pub none : (k i j : ℕ) → j ≤ i → pairOf k i j ≡ []
 none k i j h = rw (le-ltb i j h)
 
-pub at-most-two : (k i j : ℕ) → length (pairOf k i j) ≤ 2
-at-most-two k i j = split (ltb i j) (λ h. rw h (omega arith)) (λ h. rw h (omega arith))
-
--- ---- one line
-pub record Order (i from at to n : ℕ) : Type 0 where
-  pub leads : i ≤ from
-  pub spaces : from ≤ at
-  pub holds : at ≤ to
-  pub ends : to ≤ n
-
-module _ (s : List ℕ) (i from to : ℕ) (f : from ≡ lineFrom s i) (t : to ≡ from + lineLength (drop from s)) where
-  pub to-is : to ≡ lineTo s i
-  to-is = t ∙ ap (λ n. n + lineLength (drop n s)) f
-
-  pub flow-order : i ≤ length s → Order i from from to (length s)
-  flow-order h =
-      record { leads = omega arith; spaces = omega arith; holds = omega arith; ends = omega (arith, to-is, to-within s i h) }
-
-  pub flow-is : flowLine s i ≡ pair lineEndingKind i from ++ pairOf htmlFlowData from to
-  unfolding flowLine
-  flow-is = rw (to-is, f)
-
-  pub flow-count : length (flowLine s i) ≡ 2 + length (pairOf htmlFlowData from to)
-  flow-count = omega (arith, ap length flow-is)
-
-  module _ (at : ℕ) (d : at ≡ from + run isSpaceOrTab (drop from s)) where
-    pub text-order : i ≤ length s → Order i from at to (length s)
-    text-order h =
-        record { leads = omega arith; spaces = omega arith; holds = omega (arith, run-within isSpaceOrTab blank-apart (drop from s)); ends = (flow-order h).ends }
-
-    pub data-is : at ≡ dataFrom s i
-    data-is = d ∙ ap (λ n. n + run isSpaceOrTab (drop n s)) f
-
-    pub text-is : textLine s i ≡ pair lineEndingKind i from ++ (pairOf spaceOrTab from at ++ pair htmlTextData at to)
-    unfolding textLine
-    text-is = rw (to-is, data-is, f)
-
-    pub text-count : length (textLine s i) ≡ 4 + length (pairOf spaceOrTab from at)
-    text-count = omega (arith, ap length text-is, length-append (pairOf spaceOrTab from at) (pair htmlTextData at to))
-
--- ---- all lines
 module _ (s : List ℕ) (i : ℕ) where
+  -- ---- the line at i
+  pub first-within : i ≤ length s → firstTo s i ≤ length s
+  first-within h = omega (arith, run-length (λ b. not (isLineEndingByte b)) (drop i s), length-drop i s)
+
+  pub data-within : dataFrom s i ≤ firstTo s i
+  data-within = omega (arith, run-within isSpaceOrTab blank-apart (drop i s))
+
+  -- its events, by the numbers that are found on the way
+  module _ {form : Form} where
+    pub text-is : {data-from to : ℕ} → form ≡ Text → data-from ≡ dataFrom s i → to ≡ firstTo s i → dataEvents form s i ≡ pairOf spaceOrTab i data-from ++ pair htmlTextData data-from to
+    unfolding dataEvents
+    text-is is d t = rw (is, d, t)
+
+    pub flow-is : {to : ℕ} → form ≡ Flow → to ≡ firstTo s i → dataEvents form s i ≡ pairOf htmlFlowData i to
+    unfolding dataEvents
+    flow-is is t = rw (is, t)
+
+    pub text-count : form ≡ Text → length (dataEvents form s i) ≡ 2 + length (pairOf spaceOrTab i (dataFrom s i))
+    text-count is = omega (arith, ap length (text-is is refl refl), length-append (pairOf spaceOrTab i (dataFrom s i)) (pair htmlTextData (dataFrom s i) (firstTo s i)))
+
+    pub flow-count : form ≡ Flow → length (dataEvents form s i) ≡ length (pairOf htmlFlowData i (firstTo s i))
+    flow-count is = ap length (flow-is is refl)
+
+  -- ---- an ending and the line behind it
+  pub line-count : (form : Form) → length (lineEvents form s i) ≡ 2 + length (dataEvents form s (lineFrom s i))
+  unfolding lineEvents
+  line-count form = omega arith
+
+  -- ---- all lines
   from-lead : i + length (take (lineEnding (drop i s)) (drop i s)) ≡ lineFrom s i
   from-lead = ap (λ n. i + n) (lead-length s i)
 
-  text-one : (lineEnding (drop i s) ≡ 0 → ⊥) → textLines i (behind (drop i s)) ≡ textLine s i ++ textLines (lineTo s i) (behind (drop (lineTo s i) s))
-  unfolding textLines textLine
-  text-one h =
+  pub rest-one : (form : Form) → (lineEnding (drop i s) ≡ 0 → ⊥) → restEvents form s i ≡ lineEvents form s i ++ restEvents form s (lineTo s i)
+  unfolding restEvents lineEvents dataEvents textLines flowLines
+  rest-one Text h =
       rw (
         behind-one s i h,
         from-lead,
         run-content isSpaceOrTab blank-apart (drop (lineFrom s i) s),
         content-length (drop (lineFrom s i) s),
-        append_assoc (pairOf spaceOrTab (lineFrom s i) (dataFrom s i)) (pair htmlTextData (dataFrom s i) (lineTo s i)) (textLines (lineTo s i) (behind (drop (lineTo s i) s))),
+        append_assoc (pairOf spaceOrTab (lineFrom s i) (dataFrom s (lineFrom s i))) (pair htmlTextData (dataFrom s (lineFrom s i)) (lineTo s i)) (textLines (lineTo s i) (behind (drop (lineTo s i) s))),
       )
+  rest-one Flow h = rw (behind-one s i h, from-lead, content-length (drop (lineFrom s i) s))
 
-  flow-one : (lineEnding (drop i s) ≡ 0 → ⊥) → flowLines i (behind (drop i s)) ≡ flowLine s i ++ flowLines (lineTo s i) (behind (drop (lineTo s i) s))
-  unfolding flowLines flowLine
-  flow-one h = rw (behind-one s i h, from-lead, content-length (drop (lineFrom s i) s))
-
-  pub rest-one : (flow : Bool) → (lineEnding (drop i s) ≡ 0 → ⊥) → restEvents flow s i ≡ lineEvents flow s i ++ restEvents flow s (lineTo s i)
-  unfolding restEvents lineEvents
-  rest-one true h = flow-one h
-  rest-one false h = text-one h
-
-  pub rest-none : (flow : Bool) → lineEnding (drop i s) ≡ 0 → restEvents flow s i ≡ []
+  pub rest-none : (form : Form) → lineEnding (drop i s) ≡ 0 → restEvents form s i ≡ []
   unfolding restEvents flowLines textLines
-  rest-none true e = rw (behind-none s i e)
-  rest-none false e = rw (behind-none s i e)
+  rest-none Text e = rw (behind-none s i e)
+  rest-none Flow e = rw (behind-none s i e)
 
-  pub line-flow : (flow : Bool) → flow ≡ true → lineEvents flow s i ≡ flowLine s i
-  unfolding lineEvents
-  line-flow flow e = rw e
+-- the line at the pen lies in the front, and there is room for each marking of it
+pub ruleset line_room = (first-within, data-within, text-count, flow-count, line-count, ending-within)
 
-  pub line-text : (flow : Bool) → flow ≡ false → lineEvents flow s i ≡ textLine s i
-  unfolding lineEvents
-  line-text flow e = rw e
-
-  -- an ending and a line have at most six events, and at least a byte
-  pub at-most-six : (flow : Bool) → length (lineEvents flow s i) ≤ 6
-  unfolding lineEvents
-  at-most-six true = omega (arith, flow-count s i (lineFrom s i) (lineTo s i) refl refl, at-most-two htmlFlowData (lineFrom s i) (lineTo s i))
-  at-most-six false = omega (arith, text-count s i (lineFrom s i) (lineTo s i) refl refl (dataFrom s i) refl, at-most-two spaceOrTab (lineFrom s i) (dataFrom s i))
+-- by the pen that stands behind the ending
+pub line-is : (form : Form) (pen next : Pen) {from : ℕ} → from ≡ lineFrom pen.front.now pen.point.index → next.front ≡ pen.front → next.point.index ≡ from
+    → lineEvents form pen.front.now pen.point.index ≡ pair lineEndingKind pen.point.index from ++ dataEvents form next.front.now next.point.index
+unfolding lineEvents
+line-is form pen next f b e = rw (b, e, f)

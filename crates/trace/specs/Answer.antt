@@ -1,4 +1,4 @@
--- What the answers of this crate say, by 01's numbers and values for each case.
+-- What the answers of this crate say, by the numbers and values of SCOPE for each case.
 use Rattle.std.specs.Prelude.{ℕ, List, length}
 use Rattle.rules.specs.Reading.{crate as ofCrate}
 use Rattle.rules.specs.Refusal.{inlineRefusal, blockRefusal, outputRefusal}

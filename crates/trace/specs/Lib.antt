@@ -1,3 +1,4 @@
 pub mod Answer
 pub mod Writing
 pub mod Walk
+pub mod Marking

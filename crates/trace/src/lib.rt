@@ -1,6 +1,7 @@
-// Traces of scans: 01, Traces.
+// Traces of scans.
 #![tactic(auto)]
 
 pub mod block;
-mod events;
+mod pen;
+mod piece;
 pub mod tracer;

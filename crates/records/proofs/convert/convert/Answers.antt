@@ -1,4 +1,4 @@
-use native.Mathlib.Omega.{arith}
+use Rattle.std.proofs.Common.{arith}
 use Rattle.rules.proofs.Outputs.{not-written, is-written}
 use Rattle.records.proofs.convert.convert.Goals as goal
 

@@ -1,36 +1,31 @@
-use Prim.Native.Nat.{◌+◌}
-use mathlib.Core.Path.{refl, sym, ◌∙◌, ap}
-use native.Mathlib.Omega.{arith}
-use lib.ListN.{drop}
+use Rattle.std.proofs.Common.{refl, sym, ◌∙◌, ap}
 use Rattle.rules.specs.Trace.{wide}
-use Rattle.records.specs.Records.{records}
-use Rattle.records.specs.Conversion.{isOver, someOver}
-use Rattle.records.proofs.Walks.{forward, clear-start, clear-fits, clear-on}
+use Rattle.records.specs.Conversion.{isOver}
+use Rattle.records.proofs.Records.{some-left, none-left}
+use Rattle.records.proofs.Walks.{forward, no-flaw, none-on}
 use Rattle.records.proofs.Conversion.{none-bad}
 use Rattle.records.proofs.Turns.{over-here, over-on, over-out}
 use Rattle.records.proofs.convert.some_over.Goals as goal
 
-pub loop-at-init : goal.loop-at-init
-loop-at-init c = let s = c.args.trace.now in (clear-start wide s (none-bad wide s c.requires), refl)
+pub loop-rest-init : goal.loop-rest-init
+loop-rest-init c = (none-bad wide c.args.trace.now c.requires, refl)
+
+pub first_record-requires : goal.first_record-requires
+first_record-requires c = no-flaw wide _ (some-left _ c.loop-rest-test.ensures) c.loop-rest.invariant.0
 
 pub returns-then-is_over : goal.returns-then-is_over
-returns-then-is_over c = let is = ap isOver (sym c.record_at.ensures) ∙ sym c.is_over.ensures ∙ c.if-is_over.true in
-    sym (over-here c.args.trace.now c.loop-at.at c.loop-at-test.true is) ∙ c.loop-at.invariant.1
+returns-then-is_over c = sym (over-here _ (some-left _ c.loop-rest-test.ensures) (ap isOver (sym c.first_record.ensures) ∙ sym c.if-is_over.ensures)) ∙ c.loop-rest.invariant.1
 
-pub overflow_add-at : goal.overflow_add-at
-overflow_add-at c = omega (arith, clear-fits wide c.args.trace.now c.loop-at.invariant.0 c.loop-at-test.true, c.record_length-at.ensures)
+pub behind_record-rest-requires : goal.behind_record-rest-requires
+behind_record-rest-requires c = no-flaw wide _ (some-left _ c.loop-rest-test.ensures) c.loop-rest.invariant.0
 
-pub loop-at-smaller : goal.loop-at-smaller
-loop-at-smaller c = omega (arith, c.loop-at-test.true, forward wide c.args.trace.now c.loop-at.at, c.record_length-at.ensures)
+pub loop-rest-smaller : goal.loop-rest-smaller
+loop-rest-smaller c = rw c.behind_record-rest.ensures (forward wide _ (some-left _ c.loop-rest-test.ensures))
 
-pub loop-at-preserved : goal.loop-at-preserved
-loop-at-preserved c = let s = c.args.trace.now in
-    let is = ap isOver (sym c.record_at.ensures) ∙ sym c.is_over.ensures ∙ c.if-is_over.false in (
-      clear-on wide s c.loop-at.invariant.0 c.loop-at-test.true c.record_length-at.ensures,
-      ap (λ n. someOver (records wide (drop (c.loop-at.at + n) s))) c.record_length-at.ensures
-          ∙ sym (over-on s c.loop-at.at c.loop-at-test.true is)
-          ∙ c.loop-at.invariant.1,
-    )
+pub loop-rest-preserved : goal.loop-rest-preserved
+loop-rest-preserved c = let i = c.loop-rest.invariant in
+    let h = some-left _ c.loop-rest-test.ensures in
+    rw c.behind_record-rest.ensures (none-on wide _ h i.0, sym (over-on _ h (ap isOver (sym c.first_record.ensures) ∙ sym c.if-is_over.ensures)) ∙ i.1)
 
 pub returns : goal.returns
-returns c = sym (over-out c.args.trace.now c.loop-at.at c.loop-at-test.false) ∙ c.loop-at.invariant.1
+returns c = sym (over-out _ (none-left _ c.loop-rest-test.ensures)) ∙ c.loop-rest.invariant.1

@@ -1,35 +1,25 @@
-use Prim.Native.Nat.{◌+◌}
-use mathlib.Core.Path.{refl, sym, ◌∙◌, ap}
-use native.Mathlib.Omega.{arith}
-use lib.Dec.{eqb}
-use lib.ListN.{length, drop}
-use Rattle.records.specs.Records.{records, endsOnce}
-use Rattle.records.proofs.Walks.{forward, clear-start, clear-fits, clear-on, ends-on, ends-last, ends-out}
+use Rattle.std.proofs.Common.{sym, ◌∙◌, ap, eqb, length}
+use Rattle.records.specs.Answer.{bytesOf}
+use Rattle.records.proofs.Records.{some-left, none-left}
+use Rattle.records.proofs.Walks.{forward, no-flaw, none-on, ends-on, ends-last, ends-out}
 use Rattle.records.proofs.kept.ends_once.Goals as goal
 
-pub loop-at-init : goal.loop-at-init
-loop-at-init c = (clear-start c.args.width c.args.trace.now c.requires.sound, refl)
+pub behind_record-rest-requires : goal.behind_record-rest-requires
+behind_record-rest-requires c = no-flaw (bytesOf c.args.width) _ (some-left _ c.loop-rest-test.ensures) c.loop-rest.invariant.0
 
-pub overflow_add-at : goal.overflow_add-at
-overflow_add-at c = omega (arith, clear-fits c.args.width c.args.trace.now c.loop-at.invariant.0 c.loop-at-test.true, c.record_length-at.ensures)
+pub returns-then-number-gt-LAST_EVENT : goal.returns-then-number-gt-LAST_EVENT
+returns-then-number-gt-LAST_EVENT c = c.is_empty-then-number-gt-LAST_EVENT.ensures
+    ∙ ap (λ l. eqb (length l) 0) c.behind_record-rest.ensures
+    ∙ ends-last (bytesOf c.args.width) _ (some-left _ c.loop-rest-test.ensures) c.loop-rest.invariant.0 c.if-number-gt-LAST_EVENT.true
+    ∙ c.loop-rest.invariant.1
 
-pub returns-then-kind-gt-LAST_EVENT : goal.returns-then-kind-gt-LAST_EVENT
-returns-then-kind-gt-LAST_EVENT c = let a = c.args in
-    ap (λ n. eqb (c.loop-at.at + n) (length a.trace.now)) c.record_length-at.ensures
-    ∙ ends-last a.width a.trace.now c.loop-at.at c.loop-at-test.true c.loop-at.invariant.0.none c.if-kind-gt-LAST_EVENT.true
-    ∙ c.loop-at.invariant.1
+pub loop-rest-smaller : goal.loop-rest-smaller
+loop-rest-smaller c = rw c.behind_record-rest.ensures (forward (bytesOf c.args.width) _ (some-left _ c.loop-rest-test.ensures))
 
-pub loop-at-smaller : goal.loop-at-smaller
-loop-at-smaller c = omega (arith, c.loop-at-test.true, forward c.args.width c.args.trace.now c.loop-at.at, c.record_length-at.ensures)
-
-pub loop-at-preserved : goal.loop-at-preserved
-loop-at-preserved c = let a = c.args in
-    let i = c.loop-at.invariant in (
-      clear-on a.width a.trace.now i.0 c.loop-at-test.true c.record_length-at.ensures,
-      ap (λ n. endsOnce (records a.width (drop (c.loop-at.at + n) a.trace.now))) c.record_length-at.ensures
-          ∙ sym (ends-on a.width a.trace.now c.loop-at.at c.loop-at-test.true i.0.none c.if-kind-gt-LAST_EVENT.false)
-          ∙ i.1,
-    )
+pub loop-rest-preserved : goal.loop-rest-preserved
+loop-rest-preserved c = let i = c.loop-rest.invariant in
+    let h = some-left _ c.loop-rest-test.ensures in
+    rw c.behind_record-rest.ensures (none-on (bytesOf c.args.width) _ h i.0, sym (ends-on (bytesOf c.args.width) _ h i.0 c.if-number-gt-LAST_EVENT.false) ∙ i.1)
 
 pub returns : goal.returns
-returns c = sym (ends-out c.args.width c.args.trace.now c.loop-at.at c.loop-at-test.false) ∙ c.loop-at.invariant.1
+returns c = sym (ends-out (bytesOf c.args.width) _ (none-left _ c.loop-rest-test.ensures)) ∙ c.loop-rest.invariant.1

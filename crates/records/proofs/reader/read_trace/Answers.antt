@@ -1,34 +1,29 @@
-use Prim.Native.Nat.{◌+◌, ◌-◌}
-use mathlib.Core.Path.{refl, sym, ◌∙◌, ap}
-use native.Mathlib.Omega.{arith}
-use lib.ListN.{drop}
-use Rattle.rules.specs.Trace.{wide, readTrace, refusedRecord}
-use Rattle.records.proofs.Records.{whole}
+use Rattle.std.proofs.Common.{◌+◌, ◌-◌, ◌≡◌, refl, sym, ◌∙◌, arith}
+use Rattle.rules.specs.Trace.{wide}
 use Rattle.records.proofs.Walks.{read-on, read-stop, read-here}
+use Rattle.rules.proofs.Refusals.{raised}
 use Rattle.records.proofs.reader.read_trace.Goals as goal
 
-pub loop-left-init : goal.loop-left-init
-loop-left-init c = (omega arith, refl)
+pub loop-init : goal.loop-init
+loop-init c = let n : c.args.number - 0 ≡ c.args.number = omega arith in rw n refl
 
-pub returns-then-refusal-ne0 : goal.returns-then-refusal-ne0
-returns-then-refusal-ne0 c = ap refusedRecord c.flaw-refusal.ensures
-    ∙ sym (read-stop wide c.args.trace.now c.loop-left.at c.loop-left.left c.loop-left-test.true (λ z. c.if-refusal-ne0.true (c.flaw-refusal.ensures ∙ z)))
-    ∙ c.loop-left.invariant.1
+pub returns-in_err-check_record : goal.returns-in_err-check_record
+returns-in_err-check_record c = rw (raised c.from_residual.result c.from_residual.ensures.1) (read-stop wide _ _ _ c.in_err-check_record.ensures ∙ c.loop.invariant)
 
-pub bounds-trace-at : goal.bounds-trace-at
-bounds-trace-at c = (whole wide c.args.trace.now c.loop-left.at (sym c.flaw-refusal.ensures ∙ c.if-refusal-ne0.false)).starts
+pub behind_record-rest-requires : goal.behind_record-rest-requires
+behind_record-rest-requires c = sym c.in_ok-check_record.ensures
 
-pub overflow_add-at : goal.overflow_add-at
-overflow_add-at c = omega (arith, (whole wide c.args.trace.now c.loop-left.at (sym c.flaw-refusal.ensures ∙ c.if-refusal-ne0.false)).fits, c.record_length-at.ensures)
+pub loop-preserved : goal.loop-preserved
+loop-preserved c = let left = c.args.number - c.loop.counter in
+    let less : c.args.number - (c.loop.counter + 1) ≡ left - 1 = omega arith in
+    rw (less, c.behind_record-rest.ensures) (sym (read-on wide _ left (omega arith) (sym c.in_ok-check_record.ensures)) ∙ c.loop.invariant)
 
-pub loop-left-preserved : goal.loop-left-preserved
-loop-left-preserved c = let s = c.args.trace.now in
-    let e = sym c.flaw-refusal.ensures ∙ c.if-refusal-ne0.false in (
-      omega (arith, (whole wide s c.loop-left.at e).fits, c.record_length-at.ensures),
-      ap (λ n. readTrace wide (c.loop-left.left - 1) (drop (c.loop-left.at + n) s)) c.record_length-at.ensures
-          ∙ sym (read-on wide s c.loop-left.at c.loop-left.left c.loop-left-test.true e)
-          ∙ c.loop-left.invariant.1,
-    )
+pub returns-in_err-check_record-2 : goal.returns-in_err-check_record-2
+returns-in_err-check_record-2 c = rw (raised c.from_residual-in_err-check_record-2.result c.from_residual-in_err-check_record-2.ensures.1)
+    (read-stop wide _ _ _ c.in_err-check_record-2.ensures ∙ c.loop.invariant)
+
+pub first_record-requires : goal.first_record-requires
+first_record-requires c = sym c.in_ok-check_record-2.ensures
 
 pub returns : goal.returns
-returns c = c.record_at.ensures ∙ sym (read-here wide c.args.trace.now c.loop-left.at c.loop-left.left (omega arith)) ∙ c.loop-left.invariant.1
+returns c = c.first_record.ensures ∙ sym (read-here wide _ (c.args.number - c.loop.counter) (omega arith)) ∙ c.loop.invariant

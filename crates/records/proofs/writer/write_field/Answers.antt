@@ -1,15 +1,14 @@
-use Rattle.lexical.proofs.Stores.{same-set}
-use Rattle.records.proofs.Stores.{field-turn, field-end, field-start}
-use mathlib.Core.Path.{refl, sym, ◌∙◌}
+use Rattle.std.proofs.Common.{arith, ◌∙◌}
+use Rattle.records.proofs.Numbers.{two-lowest, four-lowest}
+use Rattle.records.proofs.Stores.{field-put}
 use Rattle.records.proofs.writer.write_field.Goals as goal
 
-pub loop-i-init : goal.loop-i-init
-loop-i-init c = (refl, field-start c.args.out.now c.args.at c.args.width c.args.value)
+pub returns-in-Narrow : goal.returns-in-Narrow
+returns-in-Narrow c = let a = c.args in
+    rw c.in-Narrow.is
+    (field-put a.out.now a.at 2 a.value (omega arith) (rw c.in-Narrow.is at c.requires) (rw c.to_le_bytes-bytes.ensures at c.copy_from_slice.ensures.after ∙ two-lowest a.value))
 
-pub loop-i-preserved : goal.loop-i-preserved
-loop-i-preserved c = let a = c.args in
-    (same-set c.loop-i.out _ _ ∙ c.loop-i.invariant.0, field-turn c.loop-i.out a.at a.width c.loop-i.i c.loop-i.rest c.loop-i-test.true ∙ c.loop-i.invariant.1)
-
-pub returns : goal.returns
-returns c = let a = c.args in
-    record { is = sym (field-end c.loop-i.out a.at a.width c.loop-i.i c.loop-i.rest c.loop-i-test.false) ∙ c.loop-i.invariant.1 }
+pub returns-in-Wide : goal.returns-in-Wide
+returns-in-Wide c = let a = c.args in
+    rw c.in-Wide.is
+    (field-put a.out.now a.at 4 a.value (omega arith) (rw c.in-Wide.is at c.requires) (rw c.to_le_bytes-bytes.ensures at c.copy_from_slice-in-Wide.ensures.after ∙ four-lowest a.value))

@@ -1,5 +1,4 @@
-use mathlib.Core.Path.{sym, ◌∙◌}
-use native.Mathlib.Omega.{arith}
+use Rattle.std.proofs.Common.{sym, ◌∙◌, arith}
 use Rattle.trace.proofs.Empty.{empty-here, empty-behind}
 use Rattle.trace.proofs.block.ends_empty.Goals as goal
 

@@ -1,23 +1,14 @@
-use mathlib.Core.Path.{sym, ◌∙◌, ap}
-use Prim.Native.Nat.{◌+◌}
-use native.Mathlib.Omega.{arith}
-use lib.ListN.{drop, length-drop}
-use Rattle.lexical.proofs.Ending.{ending-length}
+use Rattle.std.proofs.Common.{sym, ◌∙◌}
 use Rattle.trace.proofs.Empty.{exit-late, exit-closed, exit-far, exit-near}
 use Rattle.trace.proofs.block.flow_exit.Goals as goal
-
-pub returns-then-kind-gt-CDATA : goal.returns-then-kind-gt-CDATA
-returns-then-kind-gt-CDATA c = sym (exit-late _ _ _ _ _ c.if-kind-gt-CDATA.true)
-
-pub returns-then-closed : goal.returns-then-closed
-returns-then-closed c = sym (exit-closed _ _ _ _ _ c.if-kind-gt-CDATA.false c.if-closed.true)
-
-pub overflow_add-result : goal.overflow_add-result
-overflow_add-result c = let a = c.args in omega (arith, c.line_ending.ensures, ending-length (drop a.stop a.text.now), length-drop a.stop a.text.now, c.requires.1)
+use Rattle.trace.proofs.block.flow_exit.Goals.{else-has_closer-via-then-has_closer+then-is_none+else-ends_empty, else-has_closer-via-then-has_closer+else-is_none, else-has_closer-via-else-has_closer}
 
 pub returns-then-ends_empty : goal.returns-then-ends_empty
-returns-then-ends_empty c = let a = c.args in
-    ap (λ n. a.stop + n) c.line_ending.ensures ∙ sym (exit-far _ _ _ _ _ c.if-kind-gt-CDATA.false c.if-closed.false (sym c.ends_empty.ensures ∙ c.if-ends_empty.true))
+returns-then-ends_empty c = c.next_line.ensures ∙ sym (exit-far _ _ _ _ _ (sym c.if-has_closer.ensures) c.if-is_none.ensures (sym c.if-ends_empty.ensures))
 
 pub returns : goal.returns
-returns c = sym (exit-near _ _ _ _ _ c.if-kind-gt-CDATA.false c.if-closed.false (sym c.ends_empty.ensures ∙ c.if-ends_empty.false))
+returns c = sym (elim c.else-has_closer.branch [
+  | else-has_closer-via-then-has_closer+then-is_none+else-ends_empty w ↦ exit-near _ _ _ _ _ (sym w.if-has_closer.ensures) w.if-is_none.ensures (sym w.if-ends_empty.ensures)
+  | else-has_closer-via-then-has_closer+else-is_none w ↦ exit-closed _ _ _ _ _ (sym w.if-has_closer.ensures) w.if-is_none.ensures
+  | else-has_closer-via-else-has_closer w ↦ exit-late _ _ _ _ _ (sym w.if-has_closer.ensures)
+])
