@@ -1,19 +1,14 @@
 -- Two texts that differ behind a `<`, the opening of a private body, up to a common rest q: what is left of them at any place is ahead of the opening in both,
 -- or behind the body and the same. No class of bytes that a grammar passes holds `<`, so both are passed alike up to it; what is behind it is met only inside
 -- quotation marks or on the way to a closer, and there the two are alike by assumption.
-use mathlib.Core.Path.{◌≡◌, refl, ap}
-use mathlib.Core.Bool.{Bool, true, false, ◌&&◌, not}
-use mathlib.Core.List.{List, [], ◌∷◌, ◌++◌}
-use Prim.Native.Nat.{ℕ, suc, ◌≤◌}
-use native.Mathlib.Omega.{arith}
-use lib.Dec.{eqb}
-use lib.ListN.{length, take, drop, length-drop}
+use Rattle.std.proofs.Common.{◌≡◌, refl, ap, Bool, true, false, ◌&&◌, not, List, [], ◌∷◌, ◌++◌, ℕ, suc, ◌≤◌, arith, eqb, length, take, drop, length-drop}
+use Rattle.std.proofs.lemmas.Bool.{and_parts}
 use borrow.Author.Tests.{not-true}
 use Rattle.lexical.specs.Text.{byte, first, run}
 use Rattle.lexical.specs.Byte.{isQuote, isSpaceOrTab}
 use Rattle.lexical.specs.Line.{isBlank, atLineEnd}
 use Rattle.lexical.specs.Name.{all}
-use Rattle.lexical.proofs.Cases.{split, clash, and-left, and-right}
+use Rattle.lexical.proofs.Cases.{split, clash}
 use Rattle.rules.specs.Search.{begins, past, Left, left, nothing, throughFirst}
 use Rattle.rules.specs.Private.{Form, closer}
 use Rattle.rules.proofs.Past.{past-run, past-length}
@@ -89,17 +84,17 @@ module _ {w₁ w₂ q : List ℕ} where
   pub begins-same : (p : List ℕ) → angleless p ≡ true → {s t : List ℕ} → Pair w₁ w₂ q s t → begins p s ≡ begins p t
   unfolding all
   begins-same [] e r = refl
-  begins-same (c ∷ p) e (ahead []) = rw (not-true (eqb (byte "<") c) (and-left (not (eqb (byte "<") c)) (angleless p) e))
-  begins-same (c ∷ p) e (ahead (x ∷ u)) = rw (begins-same p (and-right (not (eqb (byte "<") c)) (angleless p) e) (ahead u))
+  begins-same (c ∷ p) e (ahead []) = rw (not-true (eqb (byte "<") c) (and_parts (not (eqb (byte "<") c)) (angleless p) e).0)
+  begins-same (c ∷ p) e (ahead (x ∷ u)) = rw (begins-same p (and_parts (not (eqb (byte "<") c)) (angleless p) e).1 (ahead u))
   begins-same (c ∷ p) e (behind s l) = refl
 
   pub drop-pair : (p : List ℕ) → angleless p ≡ true → {s t : List ℕ} → begins p s ≡ true → Pair w₁ w₂ q s t → Pair w₁ w₂ q (drop (length p) s) (drop (length p) t)
   unfolding all
   drop-pair [] e h r = r
   drop-pair (c ∷ p) e h (ahead []) =
-      clash (eqb (byte "<") c && begins p w₁) h (rw (not-true (eqb (byte "<") c) (and-left (not (eqb (byte "<") c)) (angleless p) e)))
+      clash (eqb (byte "<") c && begins p w₁) h (rw (not-true (eqb (byte "<") c) (and_parts (not (eqb (byte "<") c)) (angleless p) e).0))
   drop-pair (c ∷ p) e h (ahead (x ∷ u)) =
-      drop-pair p (and-right (not (eqb (byte "<") c)) (angleless p) e) (and-right (eqb x c) (begins p (u ++ (byte "<" ∷ w₁))) h) (ahead u)
+      drop-pair p (and_parts (not (eqb (byte "<") c)) (angleless p) e).1 (and_parts (eqb x c) (begins p (u ++ (byte "<" ∷ w₁))) h).1 (ahead u)
   drop-pair (c ∷ p) e h (behind s l) = behind (drop (length (c ∷ p)) s) (omega (arith, length-drop (length (c ∷ p)) s))
 
   -- a line's end, and one behind blanks

@@ -1,10 +1,5 @@
 -- The pieces of lines that stand at moved indices are the moved pieces: the lines behind the private bytes.
-use mathlib.Core.Path.{◌≡◌, refl}
-use mathlib.Core.Bool.{false}
-use mathlib.Core.List.{List, [], ◌∷◌, ◌++◌}
-use Prim.Native.Nat.{ℕ, zero, suc, ◌+◌}
-use native.Mathlib.Omega.{arith}
-use lib.ListN.{length}
+use Rattle.std.proofs.Common.{◌≡◌, refl, false, List, [], ◌∷◌, ◌++◌, ℕ, zero, suc, ◌+◌, arith, length}
 use Rattle.rules.specs.Lines.{Line}
 use Rattle.rules.specs.Block.{inLast, stopAfter}
 use Rattle.rules.specs.Withhold.{Mark, blockFirst, blockMore, blank, paragraphFirst, paragraphMore, goesOn, linePieces}

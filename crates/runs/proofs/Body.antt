@@ -1,16 +1,12 @@
 -- What is met across a private body with its opening and closer. No byte of the body can begin or end what is looked for, so the search goes over it; what it
 -- comes to depends on the forms alone: the closer that is looked for ends with the body's own, or it is looked for behind the body.
-use mathlib.Core.Path.{◌≡◌, refl, sym, ◌∙◌, ap}
-use mathlib.Core.Bool.{Bool, true, false, ◌&&◌, not}
-use mathlib.Core.List.{List, [], ◌∷◌, ◌++◌, append_assoc}
-use Prim.Native.Nat.{ℕ}
-use native.Mathlib.Omega.{arith}
-use lib.Dec.{eqb}
-use borrow.Author.Tests.{eqb-true, not-true}
+use Rattle.std.proofs.Common.{◌≡◌, refl, sym, ◌∙◌, ap, Bool, true, false, ◌&&◌, not, List, [], ◌∷◌, ◌++◌, append_assoc, ℕ, arith, eqb, eqb-true}
+use Rattle.std.proofs.lemmas.Bool.{and_parts}
+use borrow.Author.Tests.{not-true}
 use Rattle.lexical.specs.Text.{byte, bytes}
 use Rattle.lexical.specs.Byte.{isLetter, isQuote}
 use Rattle.lexical.specs.Name.{all}
-use Rattle.lexical.proofs.Cases.{split, clash, excluded, and-left, and-right}
+use Rattle.lexical.proofs.Cases.{split, clash, excluded}
 use Rattle.rules.specs.Search.{past, somewhere, Left, left, throughFirst}
 use Rattle.rules.specs.Block.{isRawEnd}
 use Rattle.rules.specs.Private.{isPrivate, Form, closer, around, comment as Comment, instruction as Instruction, declaration as Declaration, cdata as Cdata}
@@ -25,7 +21,12 @@ other c b = not (eqb b c)
 pub all-more : (f g : ℕ → Bool) → ((x : ℕ) → f x ≡ true → g x ≡ true) → (l : List ℕ) → all f l ≡ true → all g l ≡ true
 unfolding all
 all-more f g on [] h = refl
-all-more f g on (x ∷ l) h = rw (on x (and-left (f x) (all f l) h)) (all-more f g on l (and-right (f x) (all f l) h))
+all-more f g on (x ∷ l) h = rw (on x (and_parts (f x) (all f l) h).0) (all-more f g on l (and_parts (f x) (all f l) h).1)
+
+pub all-and : (g : ℕ → Bool) (a b : List ℕ) → all g a ≡ true → all g b ≡ true → all g (a ++ b) ≡ true
+unfolding all
+all-and g [] b h k = k
+all-and g (x ∷ xs) b h k = rw (and_parts (g x) (all g xs) h).0 (all-and g xs b (and_parts (g x) (all g xs) h).1 k)
 
 pub private-other : (c : ℕ) → isPrivate c ≡ false → (l : List ℕ) → all isPrivate l ≡ true → all (other c) l ≡ true
 private-other c e l h = all-more isPrivate (other c) (λ x p. rw (excluded isPrivate c x e p)) l h
@@ -33,18 +34,18 @@ private-other c e l h = all-more isPrivate (other c) (λ x p. rw (excluded isPri
 past-over : (f : ℕ → Bool) (l s : List ℕ) → all f l ≡ true → past f (l ++ s) ≡ past f s
 unfolding past all
 past-over f [] s h = refl
-past-over f (x ∷ l) s h = rw (and-left (f x) (all f l) h) (past-over f l s (and-right (f x) (all f l) h))
+past-over f (x ∷ l) s h = rw (and_parts (f x) (all f l) h).0 (past-over f l s (and_parts (f x) (all f l) h).1)
 
 pub through-over : (c : ℕ) (p l s : List ℕ) → all (other c) l ≡ true → throughFirst (c ∷ p) (l ++ s) ≡ throughFirst (c ∷ p) s
 unfolding throughFirst all
 through-over c p [] s h = refl
-through-over c p (x ∷ l) s h = rw (not-true (eqb x c) (and-left (other c x) (all (other c) l) h)) (through-over c p l s (and-right (other c x) (all (other c) l) h))
+through-over c p (x ∷ l) s h = rw (not-true (eqb x c) (and_parts (other c x) (all (other c) l) h).0) (through-over c p l s (and_parts (other c x) (all (other c) l) h).1)
 
 pub raw-over : (l s : List ℕ) → all (other (byte "<")) l ≡ true → somewhere isRawEnd (l ++ s) ≡ somewhere isRawEnd s
 unfolding somewhere all
 raw-over [] s h = refl
 raw-over (x ∷ l) s h =
-    rw (not-true (eqb x (byte "<")) (and-left (other (byte "<") x) (all (other (byte "<")) l) h)) (raw-over l s (and-right (other (byte "<") x) (all (other (byte "<")) l) h))
+    rw (not-true (eqb x (byte "<")) (and_parts (other (byte "<") x) (all (other (byte "<")) l) h).0) (raw-over l s (and_parts (other (byte "<") x) (all (other (byte "<")) l) h).1)
 
 -- neither `]` nor `>`
 abbrev pub calm : ℕ → Bool
@@ -54,9 +55,9 @@ pub even-over : (l s : List ℕ) → all calm l ≡ true → closesEven 0 (l ++ 
 unfolding closesEven all
 even-over [] s h = refl
 even-over (x ∷ l) s h =
-    let k = and-left (calm x) (all calm l) h in
-    rw (not-true (eqb x (byte "]")) (and-left (other (byte "]") x) (other (byte ">") x) k), not-true (eqb x (byte ">")) (and-right (other (byte "]") x) (other (byte ">") x) k))
-    (even-over l s (and-right (calm x) (all calm l) h))
+    let k = (and_parts (calm x) (all calm l) h).0 in
+    rw (not-true (eqb x (byte "]")) (and_parts (other (byte "]") x) (other (byte ">") x) k).0, not-true (eqb x (byte ">")) (and_parts (other (byte "]") x) (other (byte ">") x) k).1)
+    (even-over l s (and_parts (calm x) (all calm l) h).1)
 
 pub private-calm : (l : List ℕ) → all isPrivate l ≡ true → all calm l ≡ true
 private-calm l h = all-more isPrivate calm (λ x p. rw (excluded isPrivate (byte "]") x refl p, excluded isPrivate (byte ">") x refl p)) l h
@@ -139,9 +140,9 @@ pub comment-ends : (b q : List ℕ) → all isPrivate b ≡ true → throughFirs
 unfolding throughFirst all
 comment-ends [] q h = refl
 comment-ends (x ∷ b) q h =
-    let p = and-left (isPrivate x) (all isPrivate b) h in
+    let p = (and_parts (isPrivate x) (all isPrivate b) h).0 in
     rw (excluded isPrivate (byte ">") x refl p, excluded isPrivate (byte "-") x refl p)
-    (through-over (byte "-") (bytes "->") b (bytes "-->" ++ q) (private-other (byte "-") refl b (and-right (isPrivate x) (all isPrivate b) h)))
+    (through-over (byte "-") (bytes "->") b (bytes "-->" ++ q) (private-other (byte "-") refl b (and_parts (isPrivate x) (all isPrivate b) h).1))
 
 pub instruction-ends : (b q : List ℕ) → all isPrivate b ≡ true → throughFirst (bytes "?>") (b ++ (bytes "?>" ++ q)) ≡ left q
 unfolding throughFirst
@@ -151,7 +152,7 @@ question-ends : (b q : List ℕ) → all isPrivate b ≡ true → throughFirst (
 unfolding throughFirst all
 question-ends [] q h = refl
 question-ends (x ∷ b) q h =
-    rw (excluded isPrivate (byte ">") x refl (and-left (isPrivate x) (all isPrivate b) h)) (instruction-ends (x ∷ b) q h)
+    rw (excluded isPrivate (byte ">") x refl (and_parts (isPrivate x) (all isPrivate b) h).0) (instruction-ends (x ∷ b) q h)
 
 pub cdata-ends : (b q : List ℕ) → all isPrivate b ≡ true → throughFirst (bytes "]]>") (b ++ (bytes "]]>" ++ q)) ≡ left q
 unfolding throughFirst

@@ -1,31 +1,21 @@
 -- Where a stretch of bytes without a line ending stands among the lines of a bulletin: within one line, whose other bytes, like all other lines, do not depend
 -- on it. So the lines of two bulletins that differ in a private body are the same but for one.
-use mathlib.Core.Path.{◌≡◌, refl, sym, ◌∙◌, ap}
-use mathlib.Core.Bool.{Bool, true, false, not}
-use mathlib.Core.List.{List, [], ◌∷◌, ◌++◌}
-use Prim.Native.Nat.{ℕ, suc, ◌+◌, ◌<◌}
-use native.Mathlib.Omega.{arith}
-use lib.Dec.{eqb}
-use lib.ListN.{length}
+use Rattle.std.proofs.Common.{◌≡◌, refl, sym, ◌∙◌, ap, Bool, true, false, not, List, [], ◌∷◌, ◌++◌, ℕ, suc, ◌+◌, ◌<◌, arith, eqb, length}
+use Rattle.std.proofs.lemmas.Bool.{and_parts, or_parts}
 use borrow.Author.Tests.{not-true}
 use Rattle.lexical.specs.Text.{byte, bytes}
 use Rattle.lexical.specs.Byte.{isLetter, isLineEndingByte}
 use Rattle.lexical.specs.Name.{all}
-use Rattle.lexical.proofs.Cases.{clash, excluded, or-left, or-right, and-left, and-right}
+use Rattle.lexical.proofs.Cases.{clash, excluded}
 use Rattle.rules.specs.Search.{choose}
 use Rattle.rules.specs.Lines.{Line, line, push, cutLines, flagged, linesOf}
 use Rattle.rules.specs.Private.{isPrivate, Form, around, closer, InlineSwap, comment as Comment, instruction as Instruction, declaration as Declaration, cdata as Cdata}
 use Rattle.rules.proofs.LineLaws.{sizes}
-use Rattle.runs.proofs.Body.{inside, around-inside, all-more}
+use Rattle.runs.proofs.Body.{inside, around-inside, all-more, all-and}
 
 -- no byte of a line ending
 abbrev isInner : ℕ → Bool
 isInner b = not (isLineEndingByte b)
-
-all-and : (g : ℕ → Bool) (a b : List ℕ) → all g a ≡ true → all g b ≡ true → all g (a ++ b) ≡ true
-unfolding all
-all-and g [] b h k = k
-all-and g (x ∷ xs) b h k = rw (and-left (g x) (all g xs) h) (all-and g xs b (and-right (g x) (all g xs) h) k)
 
 all-inner : (a : List ℕ) → all isPrivate a ≡ true → all isInner a ≡ true
 all-inner a h = all-more isPrivate isInner (λ x p. rw (excluded isPrivate (byte "\n") x refl p, excluded isPrivate (byte "\r") x refl p)) a h
@@ -80,15 +70,15 @@ module _ (ending after : List ℕ) where
   unfolding cutLines all
   stretch [] h = (some after ending).is
   stretch (x ∷ xs) h =
-      let o = not-true (isLineEndingByte x) (and-left (isInner x) (all isInner xs) h) in
-      rw (or-left (eqb x (byte "\n")) (eqb x (byte "\r")) o, or-right (eqb x (byte "\n")) (eqb x (byte "\r")) o, stretch xs (and-right (isInner x) (all isInner xs) h))
+      let o = not-true (isLineEndingByte x) (and_parts (isInner x) (all isInner xs) h).0 in
+      rw ((or_parts (eqb x (byte "\n")) (eqb x (byte "\r")) o).0, (or_parts (eqb x (byte "\n")) (eqb x (byte "\r")) o).1, stretch xs (and_parts (isInner x) (all isInner xs) h).1)
 
   stretch-cr : (cr : Bool) (m : List ℕ) → 0 < length m → all isInner m ≡ true → Stretch cr m
   unfolding cutLines all
   stretch-cr cr [] pos h = absurd (omega arith)
   stretch-cr cr (x ∷ xs) pos h =
-      let o = not-true (isLineEndingByte x) (and-left (isInner x) (all isInner xs) h) in
-      rw (or-left (eqb x (byte "\n")) (eqb x (byte "\r")) o, or-right (eqb x (byte "\n")) (eqb x (byte "\r")) o, stretch xs (and-right (isInner x) (all isInner xs) h))
+      let o = not-true (isLineEndingByte x) (and_parts (isInner x) (all isInner xs) h).0 in
+      rw ((or_parts (eqb x (byte "\n")) (eqb x (byte "\r")) o).0, (or_parts (eqb x (byte "\n")) (eqb x (byte "\r")) o).1, stretch xs (and_parts (isInner x) (all isInner xs) h).1)
 
 -- ---- the lines g m of a text in which m stands behind n bytes: m is part of one line, and the rest does not depend on it
 record Place (n : ℕ) (g : List ℕ → List Line) : Type 0 where

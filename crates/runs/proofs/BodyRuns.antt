@@ -1,11 +1,6 @@
 -- Two bulletins that differ in a private body: every line has the same mark in both, with the same extent of its block, and the pieces correspond. A piece that
 -- begins before the body is a block, whose stop is the end of a line, or is inline and corresponds within its paragraph; all behind it is moved.
-use mathlib.Core.Path.{◌≡◌, refl, sym, ◌∙◌, ap}
-use mathlib.Core.Bool.{Bool, true, false}
-use mathlib.Core.List.{List, [], ◌∷◌, ◌++◌, append_assoc}
-use Prim.Native.Nat.{ℕ, zero, suc, ◌+◌, ◌-◌, ◌≤◌}
-use native.Mathlib.Omega.{arith}
-use lib.ListN.{length, length-append}
+use Rattle.std.proofs.Common.{◌≡◌, refl, sym, ◌∙◌, ap, Bool, true, false, List, [], ◌∷◌, ◌++◌, append_assoc, ℕ, zero, suc, ◌+◌, ◌-◌, ◌≤◌, arith, length, length-append}
 use Rattle.lexical.specs.Text.{byte}
 use Rattle.lexical.specs.Line.{isBlank}
 use Rattle.lexical.specs.Name.{all}

@@ -1,14 +1,8 @@
 -- Whether a line contains a closer, by a search: a closer has bytes, so it begins before the line's end exactly where the search meets one.
-use mathlib.Core.Path.{◌≡◌, refl, sym, ◌∙◌, ap}
-use mathlib.Core.Bool.{Bool, true, false, ◌&&◌, ◌||◌, not}
-use mathlib.Core.List.{List, [], ◌∷◌}
-use Prim.Native.Nat.{ℕ, suc, ◌%◌}
-use native.Mathlib.Omega.{arith}
-use lib.Dec.{eqb, ltb}
-use lib.ListN.{length}
-use borrow.Author.Tests.{eqb-true, eq-eqb, ne_eqb, lt-ltb, le-ltb, ltb-true, ltb-false}
+use Rattle.std.proofs.Common.{◌≡◌, refl, sym, ◌∙◌, ap, Bool, true, false, ◌&&◌, ◌||◌, not, List, [], ◌∷◌, ℕ, suc, ◌%◌, arith, eqb, ltb, length, eqb-true, eq-eqb, ne_eqb, lt-ltb, le-ltb, ltb-true, ltb-false}
+use Rattle.std.proofs.Math.Bool.{and-false, and-true}
 use Rattle.lexical.specs.Text.{byte, bytes}
-use Rattle.lexical.proofs.Cases.{split, and-yes, and-no}
+use Rattle.lexical.proofs.Cases.{split}
 use Rattle.rules.specs.Search.{choose, begins, somewhere, before}
 use Rattle.rules.specs.Block.{isRawEnd, beforeEven, beforeCloser, closes}
 use Rattle.rules.specs.declared.Rules.{Rules}
@@ -40,19 +34,19 @@ abbrev Oddly : List ℕ → Type 0
 Oddly s = (n : ℕ) → n % 2 ≡ 1 → closesEven n s ≡ (begins (bytes "]>") s || Within n s)
 
 zero-is : (s : List ℕ) → Evenly s → closesEven 0 s ≡ Within 0 s
-zero-is s a = a 0 refl ∙ ap (λ b. b || Within 0 s) (and-no (begins (bytes ">") s))
+zero-is s a = a 0 refl ∙ ap (λ b. b || Within 0 s) (and-false (begins (bytes ">") s))
 
 even-after : (s : List ℕ) (n : ℕ) → n % 2 ≡ 1 → Evenly s → closesEven (suc n) s ≡ (begins (bytes ">") s || Within (suc n) s)
 even-after s n o a =
-    a (suc n) (omega arith) ∙ ap (λ b. (begins (bytes ">") s && not b) || Within (suc n) s) (ne_eqb (suc n) 0 (λ z. omega arith)) ∙ ap (λ b. b || Within (suc n) s) (and-yes (begins (bytes ">") s))
+    a (suc n) (omega arith) ∙ ap (λ b. (begins (bytes ">") s && not b) || Within (suc n) s) (ne_eqb (suc n) 0 (λ z. omega arith)) ∙ ap (λ b. b || Within (suc n) s) (and-true (begins (bytes ">") s))
 
 odd-step : (x : ℕ) (xs : List ℕ) → Evenly xs → Oddly (x ∷ xs)
 unfolding closesEven beforeEven
 odd-step x xs a n o =
     let e : eqb (n % 2) 0 ≡ false = ne_eqb (n % 2) 0 (λ z. omega arith) in
     split (eqb x (byte "]"))
-    (λ h. simp (h, e, and-no, more) (even-after xs n o a))
-    (λ h. simp (h, e, and-no, more) (zero-is xs a))
+    (λ h. simp (h, e, and-false, more) (even-after xs n o a))
+    (λ h. simp (h, e, and-false, more) (zero-is xs a))
 
 even-step : (x : ℕ) (xs : List ℕ) → Evenly xs → Oddly xs → Evenly (x ∷ xs)
 unfolding closesEven beforeEven
@@ -64,7 +58,7 @@ even-step x xs a b n o =
     (λ t. let u = b (suc n) (omega arith) in simp (h, e, g, t) (u ∙ ap (λ c. c || Within (suc n) xs) t ∙ sym (lt-ltb 0 (suc (length xs)) (omega arith))))
     (λ t. let u = b (suc n) (omega arith) in simp (h, e, g, t, more) (u ∙ ap (λ c. c || Within (suc n) xs) t)))
     (λ h. split (eqb x (byte ">"))
-    (λ g. simp (h, e, g, and-yes, more) (ap (λ c. not (eqb n 0) || c) (zero-is xs a)))
+    (λ g. simp (h, e, g, and-true, more) (ap (λ c. not (eqb n 0) || c) (zero-is xs a)))
     (λ g. simp (h, e, g, more) (zero-is xs a)))
 
 even-all : (s : List ℕ) → Evenly s × Oddly s

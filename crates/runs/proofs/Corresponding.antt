@@ -1,16 +1,11 @@
 -- Two lists of pieces that correspond place by place: each index of a piece is the same in both and stands at or before the place p where the texts part, or it
 -- stands as far behind j₁ in the one as behind j₂ in the other, where they meet again. Where a piece holds all from p to j₁, the bytes outside the pieces are
 -- the same: before p and behind j₁ the same indices are withheld, and between them all.
-use mathlib.Core.Path.{◌≡◌, refl, sym, ◌∙◌, ap}
-use mathlib.Core.Bool.{true, ◌&&◌}
-use mathlib.Core.List.{List, [], ◌∷◌, ◌++◌}
-use Prim.Native.Nat.{ℕ, suc, ◌+◌, ◌<◌, ◌≤◌}
-use native.Mathlib.Nat.{add-zero, add-suc}
-use native.Mathlib.Omega.{arith}
-use lib.Dec.{leb, ltb}
-use lib.ListN.{length}
-use borrow.Author.Tests.{le-leb, lt-leb, lt-ltb, le-ltb, leb-true, leb-false, ltb-true, ltb-false}
-use Rattle.lexical.proofs.Cases.{split, and-left, and-right, or-yes}
+use Rattle.std.proofs.Common.{◌≡◌, refl, sym, ◌∙◌, ap, true, ◌&&◌, List, [], ◌∷◌, ◌++◌, ℕ, suc, ◌+◌, ◌<◌, ◌≤◌, add-zero, add-suc, arith, leb, ltb, length, le-leb, lt-ltb, le-ltb, leb-true, leb-false, ltb-true, ltb-false}
+use Rattle.std.proofs.lemmas.Bool.{and_parts}
+use Rattle.std.proofs.Math.Bool.{or-true}
+use borrow.Author.Tests.{lt-leb}
+use Rattle.lexical.proofs.Cases.{split}
 use Rattle.rules.specs.Withhold.{Which, Piece, piece, holds, isWithheld, outside}
 use Rattle.rules.specs.Private.{any, spans, encloses}
 
@@ -85,10 +80,10 @@ spanned p j i [] a b h = h
 spanned p j i (q ∷ ps) a b h =
     split (leb q.start p && leb j q.stop)
     (λ t.
-    let u = leb-true q.start p (and-left (leb q.start p) (leb j q.stop) t) in
-    let v = leb-true j q.stop (and-right (leb q.start p) (leb j q.stop) t) in
+    let u = leb-true q.start p (and_parts (leb q.start p) (leb j q.stop) t).0 in
+    let v = leb-true j q.stop (and_parts (leb q.start p) (leb j q.stop) t).1 in
     rw (le-leb q.start i (omega arith), lt-ltb i q.stop (omega arith)))
-    (λ t. rw (spanned p j i ps a b (rw t at h)) (or-yes (holds i q)))
+    (λ t. rw (spanned p j i ps a b (rw t at h)) (or-true (holds i q)))
 
 -- ---- the bytes outside
 outside-held : (p j : ℕ) (ps : List Piece) → any (spans p j) ps ≡ true → (m s : List ℕ) (i : ℕ) → p ≤ i → i + length m ≡ j → outside i ps (m ++ s) ≡ outside j ps s

@@ -1,11 +1,6 @@
 -- Blocks and private lines. A block of kinds 1 to 5 goes over private lines alike in two bulletins: none of them closes it, and whether one is lazy does not
 -- depend on its bytes. A block that ends before them is the same in both. Where a block's stop lies behind them, all of them are its further lines.
-use mathlib.Core.Path.{◌≡◌, refl, ap}
-use mathlib.Core.Bool.{Bool, false}
-use mathlib.Core.List.{List, [], ◌∷◌, ◌++◌}
-use Prim.Native.Nat.{ℕ, zero, suc, ◌+◌, ◌-◌, ◌<◌, ◌≤◌}
-use native.Mathlib.Omega.{arith}
-use lib.ListN.{length}
+use Rattle.std.proofs.Common.{◌≡◌, refl, ap, Bool, false, List, [], ◌∷◌, ◌++◌, ℕ, zero, suc, ◌+◌, ◌-◌, ◌<◌, ◌≤◌, arith, length}
 use borrow.Author.Tests.{lt-leb}
 use Rattle.lexical.proofs.Cases.{split}
 use Rattle.rules.specs.Lines.{Line, line}

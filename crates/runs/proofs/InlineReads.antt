@@ -1,17 +1,13 @@
 -- Inline reading of two texts that are alike but for a private body, from a byte before its opening on: both find raw HTML or neither does, and what is left of
 -- them corresponds. An opening or a closer holds no `<` behind its first byte, so it ends before the private opening or begins behind it.
-use mathlib.Core.Path.{◌≡◌, refl, sym, ◌∙◌, ap}
-use mathlib.Core.Bool.{Bool, true, false, ◌&&◌, not}
-use mathlib.Core.List.{List, [], ◌∷◌, ◌++◌}
-use Prim.Native.Nat.{ℕ, suc, ◌≤◌}
-use native.Mathlib.Omega.{arith}
-use lib.Dec.{eqb}
-use lib.ListN.{length, length-drop}
+use Rattle.std.proofs.Common.{◌≡◌, refl, sym, ◌∙◌, ap, Bool, true, false, ◌&&◌, not, List, [], ◌∷◌, ◌++◌, ℕ, suc, ◌≤◌, arith, eqb, length, length-drop}
+use Rattle.std.proofs.Math.Bool.{and-false}
+use Rattle.std.proofs.lemmas.Bool.{and_parts}
 use borrow.Author.Tests.{not-true}
 use Rattle.lexical.specs.Text.{byte, bytes, first}
 use Rattle.lexical.specs.Byte.{isLetter}
 use Rattle.lexical.specs.Name.{all, cdataPrefix}
-use Rattle.lexical.proofs.Cases.{split, and-left, and-right}
+use Rattle.lexical.proofs.Cases.{split}
 use Rattle.rules.specs.Search.{choose, begins, Left, left, nothing, throughFirst}
 use Rattle.rules.specs.Tag.{inlineTags}
 use Rattle.rules.specs.Inline.{comment, instruction, declaration, htmlTag, Prefix, whole, letters, prefix, Read, takes, lacks, carrying, cdataBody, rawHtml, keeping, readInline}
@@ -19,7 +15,7 @@ use Rattle.rules.specs.Private.{Form, closer, comment as Comment, instruction as
 use Rattle.rules.specs.declared.Rules.{Rules}
 use Rattle.rules.proofs.Comment.{comment-is}
 use Rattle.runs.proofs.Alike.{AtMost, Alike, Pair, ahead, behind, Lefts, lefts, nothings, View, at-end, at-opening, at-byte, angleless, view, same-lefts, first-same, begins-same, drop-pair}
-use Rattle.runs.proofs.Tags.{choose-lefts, or-lefts, class-pair, and-fails, open-lefts, close-lefts}
+use Rattle.runs.proofs.Tags.{choose-lefts, or-lefts, class-pair, open-lefts, close-lefts}
 
 -- ---- closers
 pub most-trans : (q s : List ℕ) (a : Left) → length s ≤ length q → AtMost s a → AtMost q a
@@ -56,31 +52,31 @@ module _ {w₁ w₂ q : List ℕ} (alike : Alike w₁ w₂ q) (x : ℕ) where
   comment-lefts {s} {t} r =
       rw (comment-is (x ∷ s), comment-is (x ∷ t))
       (choose-lefts (eqb x (byte "<") && begins (bytes "!--") s) (eqb x (byte "<") && begins (bytes "!--") t) (ap (λ (b : Bool). eqb x (byte "<") && b) (begins-same (bytes "!--") refl r))
-      (λ h. through-lefts alike Comment (drop-pair (bytes "!") refl (shorter s (and-right (eqb x (byte "<")) (begins (bytes "!--") s) h)) r)) (λ h. nothings))
+      (λ h. through-lefts alike Comment (drop-pair (bytes "!") refl (shorter s (and_parts (eqb x (byte "<")) (begins (bytes "!--") s) h).1) r)) (λ h. nothings))
     where
       shorter : (s : List ℕ) → begins (bytes "!--") s ≡ true → begins (bytes "!") s ≡ true
       shorter [] h = h
-      shorter (y ∷ ys) h = rw (and-left (eqb y (byte "!")) (begins (bytes "--") ys) h)
+      shorter (y ∷ ys) h = rw (and_parts (eqb y (byte "!")) (begins (bytes "--") ys) h).0
 
   instruction-lefts : {s t : List ℕ} → Pair w₁ w₂ q s t → Lefts w₁ w₂ q (instruction (x ∷ s)) (instruction (x ∷ t))
   unfolding instruction all
   instruction-lefts {s} {t} r =
       choose-lefts (eqb x (byte "<") && begins (bytes "?") s) (eqb x (byte "<") && begins (bytes "?") t) (ap (λ (b : Bool). eqb x (byte "<") && b) (begins-same (bytes "?") refl r))
-      (λ h. through-lefts alike Instruction (drop-pair (bytes "?") refl (and-right (eqb x (byte "<")) (begins (bytes "?") s) h) r)) (λ h. nothings)
+      (λ h. through-lefts alike Instruction (drop-pair (bytes "?") refl (and_parts (eqb x (byte "<")) (begins (bytes "?") s) h).1 r)) (λ h. nothings)
 
   declaration-lefts : {s t : List ℕ} → Pair w₁ w₂ q s t → Lefts w₁ w₂ q (declaration (x ∷ s)) (declaration (x ∷ t))
   unfolding declaration
   declaration-lefts r = by-view (view r)
     where
       by-view : {s t : List ℕ} → View w₁ w₂ q s t → Lefts w₁ w₂ q (declaration (x ∷ s)) (declaration (x ∷ t))
-      by-view at-end = rw (and-fails (eqb x (byte "<"))) nothings
-      by-view at-opening = rw (and-fails (eqb x (byte "<"))) nothings
+      by-view at-end = rw (and-false (eqb x (byte "<"))) nothings
+      by-view at-opening = rw (and-false (eqb x (byte "<"))) nothings
       by-view (at-byte y {s} {t} k) =
           let a = (eqb x (byte "<") && (eqb y (byte "!") && true)) && isLetter (first s) in
           let b = (eqb x (byte "<") && (eqb y (byte "!") && true)) && isLetter (first t) in
           let e : a ≡ b = ap (λ (z : ℕ). (eqb x (byte "<") && (eqb y (byte "!") && true)) && isLetter z) (first-same k) in
           choose-lefts a b e
-          (λ h. through-lefts alike (Declaration (byte "A") refl) (class-pair isLetter refl (and-right (eqb x (byte "<") && (eqb y (byte "!") && true)) (isLetter (first s)) h) k))
+          (λ h. through-lefts alike (Declaration (byte "A") refl) (class-pair isLetter refl (and_parts (eqb x (byte "<") && (eqb y (byte "!") && true)) (isLetter (first s)) h).1 k))
           (λ h. nothings)
 
   tag-lefts : (ρ : Rules) {s t : List ℕ} → Pair w₁ w₂ q s t → Lefts w₁ w₂ q (htmlTag ρ (x ∷ s)) (htmlTag ρ (x ∷ t))
@@ -97,11 +93,11 @@ data Prefixes (w₁ w₂ q : List ℕ) : Prefix → Prefix → Type 0 where
 prefixes : {w₁ w₂ q : List ℕ} (k : ℕ) (p : List ℕ) → angleless p ≡ true → {s t : List ℕ} → Pair w₁ w₂ q s t → Prefixes w₁ w₂ q (prefix k p s) (prefix k p t)
 unfolding prefix all
 prefixes k [] e r = wholes r
-prefixes {w₁} {w₂} {q} k (c ∷ p) e r = by-view (λ k' s t i. prefixes k' p (and-right (not (eqb (byte "<") c)) (angleless p) e) i) (view r)
+prefixes {w₁} {w₂} {q} k (c ∷ p) e r = by-view (λ k' s t i. prefixes k' p (and_parts (not (eqb (byte "<") c)) (angleless p) e).1 i) (view r)
   where
     by-view : ((k : ℕ) (s t : List ℕ) → Pair w₁ w₂ q s t → Prefixes w₁ w₂ q (prefix k p s) (prefix k p t)) → {s t : List ℕ} → View w₁ w₂ q s t → Prefixes w₁ w₂ q (prefix k (c ∷ p) s) (prefix k (c ∷ p) t)
     by-view ih at-end = both-letters k
-    by-view ih at-opening = rw (not-true (eqb (byte "<") c) (and-left (not (eqb (byte "<") c)) (angleless p) e)) (both-letters k)
+    by-view ih at-opening = rw (not-true (eqb (byte "<") c) (and_parts (not (eqb (byte "<") c)) (angleless p) e).0) (both-letters k)
     by-view ih (at-byte y {s} {t} i) = split (eqb y c) (λ h. rw h (ih (suc k) s t i)) (λ h. rw h (both-letters k))
 
 -- what reading gives of the one and of the other
@@ -137,7 +133,7 @@ module _ {w₁ w₂ q : List ℕ} (alike : Alike w₁ w₂ q) (ρ : Rules) (x : 
       split (eqb x (byte "<") && begins (bytes "![") s)
       (λ h.
       let k : (eqb x (byte "<") && begins (bytes "![") t) ≡ true = sym (ap (λ (b : Bool). eqb x (byte "<") && b) e) ∙ h in
-      rw (h, k) (cdata-reads (prefixes 0 cdataPrefix prefix-angleless (drop-pair (bytes "![") refl (and-right (eqb x (byte "<")) (begins (bytes "![") s) h) r))))
+      rw (h, k) (cdata-reads (prefixes 0 cdataPrefix prefix-angleless (drop-pair (bytes "![") refl (and_parts (eqb x (byte "<")) (begins (bytes "![") s) h).1 r))))
       (λ h.
       let k : (eqb x (byte "<") && begins (bytes "![") t) ≡ false = sym (ap (λ (b : Bool). eqb x (byte "<") && b) e) ∙ h in
       rw (h, k) (carried 0 (tag-lefts alike x ρ r)))

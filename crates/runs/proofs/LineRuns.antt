@@ -1,16 +1,11 @@
 -- Two bulletins that differ in private lines which run one withholds within a closed block of kinds 1 to 5: every line has the same mark in both, and the pieces
 -- correspond. The block that encloses the lines begins at a line before them. What stands before that line does not reach the private lines, since the line is
 -- tried for a block only where no earlier one holds it, and it ends every paragraph; behind it all lines up to its last are its further lines.
-use mathlib.Core.Path.{◌≡◌, refl, sym, ◌∙◌, ap}
-use mathlib.Core.Bool.{Bool, true, false, ◌||◌, ◌&&◌}
-use mathlib.Core.List.{List, [], ◌∷◌, ◌++◌, append_assoc}
-use Prim.Native.Nat.{ℕ, zero, suc, ◌+◌, ◌-◌, ◌<◌, ◌≤◌}
-use native.Mathlib.Omega.{arith}
-use lib.Dec.{eqb, leb, ltb}
-use lib.ListN.{length, length-append}
-use borrow.Author.Tests.{le-ltb, leb-true, ltb-true, ltb-false}
+use Rattle.std.proofs.Common.{◌≡◌, refl, sym, ◌∙◌, ap, Bool, true, false, ◌||◌, ◌&&◌, List, [], ◌∷◌, ◌++◌, append_assoc, ℕ, zero, suc, ◌+◌, ◌-◌, ◌<◌, ◌≤◌, arith, eqb, leb, ltb, length, length-append, le-ltb, leb-true, ltb-true, ltb-false}
+use Rattle.std.proofs.Math.Bool.{or_assoc}
+use Rattle.std.proofs.lemmas.Bool.{and_parts}
 use Rattle.lexical.specs.Line.{isBlank}
-use Rattle.lexical.proofs.Cases.{split, clash, and-left, and-right}
+use Rattle.lexical.proofs.Cases.{split, clash}
 use Rattle.rules.specs.Search.{choose}
 use Rattle.rules.specs.Inline.{Read, takes, lacks}
 use Rattle.rules.specs.Lines.{Line}
@@ -29,11 +24,7 @@ use Rattle.runs.proofs.Covered.{same-number, extent-some, extent-over, extent-wi
 any-append : (f : Piece → Bool) (a b : List Piece) → any f (a ++ b) ≡ (any f a || any f b)
 unfolding any
 any-append f [] b = refl
-any-append f (x ∷ a) b = rw (any-append f a b) (or-or (f x) (any f a) (any f b))
-  where
-    or-or : (x y z : Bool) → (x || (y || z)) ≡ ((x || y) || z)
-    or-or true y z = refl
-    or-or false y z = refl
+any-append f (x ∷ a) b = rw (any-append f a b) (sym (or_assoc (f x) (any f a) (any f b)))
 
 and-none : (a b : Bool) → (a && (false && b)) ≡ false
 and-none true b = refl
@@ -178,7 +169,7 @@ module _ (ρ : Rules) (a b back : List Line) (r : Privates a b) (p j₁ j₂ at 
     -- it encloses the private lines
     here : (leb k 5 && x₁.closed) ≡ true → suc j₁ ≤ stopAfter begin x₁.lines (l ∷ one e) → Found (l ∷ e) i (blockFirst k x₁ ∷ ms₁) (blockFirst k x₂ ∷ ms₂)
     here low far =
-        let low' : k ≤ 5 = leb-true k 5 (and-left (leb k 5) x₁.closed low) in
+        let low' : k ≤ 5 = leb-true k 5 (and_parts (leb k 5) x₁.closed low).0 in
         let same : x₁ ≡ x₂ = extent-over ρ k low' back l e a b r in
         let m = x₁.lines - 1 in
         let some : x₁.lines ≡ suc m = extent-some ρ k l (one e) in
@@ -231,8 +222,8 @@ module _ (ρ : Rules) (a b back : List Line) (r : Privates a b) (p j₁ j₂ at 
         let stop = stopAfter begin x₁.lines (l ∷ one e) in
         split ((leb k 5 && x₁.closed) && (ltb begin (suc p) && leb (suc j₁) stop))
         (λ t.
-        let u = and-right (leb k 5 && x₁.closed) (ltb begin (suc p) && leb (suc j₁) stop) t in
-        here (and-left (leb k 5 && x₁.closed) (ltb begin (suc p) && leb (suc j₁) stop) t) (leb-true (suc j₁) stop (and-right (ltb begin (suc p)) (leb (suc j₁) stop) u)))
+        let u = (and_parts (leb k 5 && x₁.closed) (ltb begin (suc p) && leb (suc j₁) stop) t).1 in
+        here (and_parts (leb k 5 && x₁.closed) (ltb begin (suc p) && leb (suc j₁) stop) t).0 (leb-true (suc j₁) stop (and_parts (ltb begin (suc p)) (leb (suc j₁) stop) u).1))
         (λ t. later (rw t at enc) ih)
 
   pub found : (e : List Line) (n : ℕ) (par : Bool) (i : ℕ) → i + sizes e ≡ at → Claim e i (marks ρ n par (one e)) (marks ρ n par (two e))

@@ -1,14 +1,10 @@
 -- At the opening of a private body itself: inline reading takes all through the closer, a line's content that begins there opens the block kind of the form, and
 -- the two end conditions that are no plain search, of raw names and of F1, come to the same for every body.
-use mathlib.Core.Path.{◌≡◌, refl, ◌∙◌}
-use mathlib.Core.Bool.{Bool, true, false}
-use mathlib.Core.List.{List, [], ◌∷◌, ◌++◌, append_assoc}
-use Prim.Native.Nat.{ℕ}
-use lib.Dec.{eqb}
+use Rattle.std.proofs.Common.{◌≡◌, refl, ◌∙◌, Bool, true, false, List, [], ◌∷◌, ◌++◌, append_assoc, ℕ, eqb}
 use Rattle.lexical.specs.Text.{byte, bytes, run}
 use Rattle.lexical.specs.Byte.{isLetter}
 use Rattle.lexical.specs.Name.{all, isMember, sameBytes, isRawName, rawNames, cdataPrefix}
-use Rattle.lexical.proofs.Cases.{excluded, and-left, and-right}
+use Rattle.lexical.proofs.Cases.{excluded}
 use Rattle.rules.specs.Search.{choose, somewhere}
 use Rattle.rules.specs.Tag.{openTag, closingTag}
 use Rattle.rules.specs.Inline.{instruction, declaration, htmlTag, prefix, takes, lacks, rawHtml, readInline}
@@ -18,7 +14,7 @@ use Rattle.rules.specs.Private.{isPrivate, Form, closer, comment as Comment, ins
 use Rattle.rules.specs.declared.Rules.{Rules}
 use Rattle.rules.proofs.Comment.{comment-is}
 use Rattle.runs.proofs.Closes.{closesEven}
-use Rattle.runs.proofs.Body.{inside, rest, other, private-other, private-calm, raw-over, even-over, comment-ends, instruction-ends, angle-ends, cdata-ends}
+use Rattle.runs.proofs.Body.{inside, all-and, rest, other, private-other, private-calm, raw-over, even-over, comment-ends, instruction-ends, angle-ends, cdata-ends}
 
 -- ---- inline
 raw-opens : (ρ : Rules) (f : Form) (b q : List ℕ) → all isPrivate b ≡ true → rawHtml ρ 0 (byte "<" ∷ inside f b q) ≡ takes q 0
@@ -71,17 +67,12 @@ inside-is Instruction b q = simp append_assoc
 inside-is (Declaration l h) b q = simp append_assoc
 inside-is Cdata b q = simp append_assoc
 
-all-two : (g : ℕ → Bool) (a b : List ℕ) → all g a ≡ true → all g b ≡ true → all g (a ++ b) ≡ true
-unfolding all
-all-two g [] b h k = k
-all-two g (x ∷ xs) b h k = rw (and-left (g x) (all g xs) h) (all-two g xs b (and-right (g x) (all g xs) h) k)
-
 pub interior-closed : (f : Form) (b : List ℕ) → all isPrivate b ≡ true → all (other (byte "<")) (interior f b) ≡ true
 unfolding all
-interior-closed Comment b h = all-two (other (byte "<")) b (bytes "--") (private-other (byte "<") refl b h) refl
-interior-closed Instruction b h = all-two (other (byte "<")) b (bytes "?") (private-other (byte "<") refl b h) refl
-interior-closed (Declaration l e) b h = rw (excluded isLetter (byte "<") l refl e) (all-two (other (byte "<")) b [] (private-other (byte "<") refl b h) refl)
-interior-closed Cdata b h = all-two (other (byte "<")) b (bytes "]]") (private-other (byte "<") refl b h) refl
+interior-closed Comment b h = all-and (other (byte "<")) b (bytes "--") (private-other (byte "<") refl b h) refl
+interior-closed Instruction b h = all-and (other (byte "<")) b (bytes "?") (private-other (byte "<") refl b h) refl
+interior-closed (Declaration l e) b h = rw (excluded isLetter (byte "<") l refl e) (all-and (other (byte "<")) b [] (private-other (byte "<") refl b h) refl)
+interior-closed Cdata b h = all-and (other (byte "<")) b (bytes "]]") (private-other (byte "<") refl b h) refl
 
 -- ---- the kind of block
 abbrev pub kindOfForm : Form → ℕ

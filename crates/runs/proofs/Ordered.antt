@@ -1,20 +1,13 @@
 -- The pieces of a bulletin stand in text order, each with a byte and none over another: an inline reading takes a byte or more, and the next begins where it
 -- stops; a block stops where its last line ends, and a paragraph where its text ends, and each later line that gives a piece stands behind that. So what is shown
 -- is the bytes before the first piece, and then what the other pieces leave of the bytes from its stop on.
-use mathlib.Core.Path.{◌≡◌, refl, sym, ◌∙◌, ap}
-use mathlib.Core.Bool.{Bool, true, false, ◌||◌, not}
-use mathlib.Core.List.{List, [], ◌∷◌, ◌++◌}
-use Prim.Native.Nat.{ℕ, zero, suc, ◌+◌, ◌-◌, ◌<◌, ◌≤◌}
-use native.Mathlib.Nat.{add-zero}
-use native.Mathlib.Omega.{arith}
-use lib.Dec.{eqb, leb}
-use lib.ListN.{length, take, drop, length-append}
-use lib.Seq.{drop-drop}
-use borrow.Author.Tests.{le-leb, lt-leb, lt-ltb, le-ltb}
+use Rattle.std.proofs.Common.{◌≡◌, refl, sym, ◌∙◌, ap, Bool, true, false, ◌||◌, not, List, [], ◌∷◌, ◌++◌, ℕ, zero, suc, ◌+◌, ◌-◌, ◌<◌, ◌≤◌, add-zero, arith, eqb, leb, length, take, drop, length-append, drop-drop, le-leb, lt-ltb, le-ltb}
+use Rattle.std.proofs.Math.Bool.{and-false}
+use borrow.Author.Tests.{lt-leb}
 use Rattle.lexical.specs.Text.{run}
 use Rattle.lexical.specs.Name.{isRawName}
 use Rattle.lexical.specs.Line.{isBlank}
-use Rattle.lexical.proofs.Cases.{clash, and-no}
+use Rattle.lexical.proofs.Cases.{clash}
 use Rattle.rules.specs.Search.{choose}
 use Rattle.rules.specs.Inline.{Read, takes, lacks}
 use Rattle.rules.specs.Tag.{openTag, closingTag}
@@ -78,7 +71,7 @@ inline-ordered ρ (suc n) i odd (x ∷ s) = by-read (λ k o t. inline-ordered ρ
 -- a line that opens a block has a byte
 opens-some : (ρ : Rules) (f : ℕ) (e c : List ℕ) → eqb (kindOf ρ (line f e c)) 0 ≡ false → 0 < length c
 unfolding kindOf kindAt startsRaw startsBasic startsComplete run openTag closingTag
-opens-some ρ f e [] h = clash true refl (rw (and-no (ρ.f3 || not (isRawName []))) at h)
+opens-some ρ f e [] h = clash true refl (rw (and-false (ρ.f3 || not (isRawName []))) at h)
 opens-some ρ f e (x ∷ c) h = omega arith
 
 -- ---- the pieces of all lines
@@ -156,7 +149,7 @@ shown-before o (suc n) i (x ∷ s) e = rw (before-none i o (omega arith)) (ap (�
 behind-first : (p : Piece) (ps : List Piece) (i : ℕ) (s : List ℕ) → p.stop ≤ i → outside i (p ∷ ps) s ≡ outside i ps s
 unfolding outside isWithheld
 behind-first p ps i [] h = refl
-behind-first p ps i (x ∷ s) h = rw (le-ltb i p.stop h, and-no (leb p.start i), behind-first p ps (suc i) s (omega arith))
+behind-first p ps i (x ∷ s) h = rw (le-ltb i p.stop h, and-false (leb p.start i), behind-first p ps (suc i) s (omega arith))
 
 past-first : (p : Piece) (ps : List Piece) (n i : ℕ) (s : List ℕ) → p.start ≤ i → i + n ≡ p.stop → outside i (p ∷ ps) s ≡ outside p.stop ps (drop n s)
 unfolding outside isWithheld

@@ -1,16 +1,10 @@
 -- The inline pieces of two paragraphs that are alike but for a private body correspond. A reading before the opening ends before it in both, or behind the body
 -- in both, or finds nothing; at the opening both take the body; and behind it the texts are the same.
-use mathlib.Core.Path.{◌≡◌, refl, sym, ◌∙◌, ap}
-use mathlib.Core.Bool.{Bool, true, false}
-use mathlib.Core.List.{List, [], ◌∷◌, ◌++◌}
-use Prim.Native.Nat.{ℕ, zero, suc, ◌+◌, ◌-◌, ◌<◌, ◌≤◌}
-use native.Mathlib.Omega.{arith}
-use lib.Dec.{eqb}
-use lib.ListN.{length, length-append}
+use Rattle.std.proofs.Common.{◌≡◌, refl, sym, ◌∙◌, ap, Bool, true, false, List, [], ◌∷◌, ◌++◌, ℕ, zero, suc, ◌+◌, ◌-◌, ◌<◌, ◌≤◌, arith, eqb, length, length-append}
+use Rattle.std.proofs.lemmas.Bool.{and_parts}
 use borrow.Author.Tests.{not-true}
 use Rattle.lexical.specs.Text.{byte}
 use Rattle.lexical.specs.Name.{all}
-use Rattle.lexical.proofs.Cases.{and-left, and-right}
 use Rattle.rules.specs.Inline.{Read, takes, lacks}
 use Rattle.rules.specs.Withhold.{piece, inline, byRead, oddBehind, tried, inlinePieces}
 use Rattle.rules.specs.Private.{isPrivate, Form}
@@ -78,8 +72,8 @@ over-closed ρ (x ∷ v) h m i odd q =
     let z : suc i + suc (length v) ≡ i + suc (suc (length v)) = omega arith in
     let y : suc (length v) + m ≡ suc (length v + m) = omega arith in
     ap (λ (k : ℕ). inlinePieces ρ (suc k) i odd (x ∷ (v ++ (byte ">" ∷ q)))) y
-    ∙ past-other ρ (suc (length v + m)) i odd x (v ++ (byte ">" ∷ q)) (not-true (eqb x (byte "<")) (and-left (other (byte "<") x) (all (other (byte "<")) v) h))
-    ∙ over-closed ρ v (and-right (other (byte "<") x) (all (other (byte "<")) v) h) m (suc i) (oddBehind odd x) q
+    ∙ past-other ρ (suc (length v + m)) i odd x (v ++ (byte ">" ∷ q)) (not-true (eqb x (byte "<")) (and_parts (other (byte "<") x) (all (other (byte "<")) v) h).0)
+    ∙ over-closed ρ v (and_parts (other (byte "<") x) (all (other (byte "<")) v) h).1 m (suc i) (oddBehind odd x) q
     ∙ ap (λ (k : ℕ). inlinePieces ρ m k false q) z
 
 -- ---- a paragraph with the body, which stands from p on and has d₁ and d₂ bytes, opening and closer included

@@ -1,15 +1,10 @@
 -- Private whole lines among the lines of a bulletin. Behind an LF the lines begin anew, so what stands before the private lines does not depend on them; each
 -- of them is a line with the LF before it, and the last one's LF leads to the line behind them.
-use mathlib.Core.Path.{◌≡◌, refl, sym, ◌∙◌, ap}
-use mathlib.Core.Bool.{Bool, true, false}
-use mathlib.Core.List.{List, [], ◌∷◌, ◌++◌, append_assoc}
-use Prim.Native.Nat.{ℕ, suc, ◌+◌, ◌<◌, ◌≤◌}
-use native.Mathlib.Omega.{arith}
-use lib.Dec.{eqb}
-use lib.ListN.{length, length-append}
+use Rattle.std.proofs.Common.{◌≡◌, refl, sym, ◌∙◌, ap, Bool, true, false, List, [], ◌∷◌, ◌++◌, append_assoc, ℕ, suc, ◌+◌, ◌<◌, ◌≤◌, arith, eqb, length, length-append}
+use Rattle.std.proofs.lemmas.Bool.{and_parts}
 use Rattle.lexical.specs.Text.{byte, bytes}
 use Rattle.lexical.specs.Name.{all}
-use Rattle.lexical.proofs.Cases.{excluded, and-left, and-right}
+use Rattle.lexical.proofs.Cases.{excluded}
 use Rattle.rules.specs.Search.{choose}
 use Rattle.rules.specs.Lines.{Line, line, push, cutLines, flagged, linesOf}
 use Rattle.rules.specs.Private.{isPrivate, linesText, LinesSwap}
@@ -91,16 +86,16 @@ one-line : (c lead u : List ℕ) → all isPrivate c ≡ true → cutLines false
 unfolding cutLines all
 one-line [] lead u h = refl
 one-line (x ∷ xs) lead u h =
-    let p = and-left (isPrivate x) (all isPrivate xs) h in
-    rw (excluded isPrivate (byte "\n") x refl p, excluded isPrivate (byte "\r") x refl p, one-line xs lead u (and-right (isPrivate x) (all isPrivate xs) h))
+    let p = (and_parts (isPrivate x) (all isPrivate xs) h).0 in
+    rw (excluded isPrivate (byte "\n") x refl p, excluded isPrivate (byte "\r") x refl p, one-line xs lead u (and_parts (isPrivate x) (all isPrivate xs) h).1)
 
 cut-privates : (cs : List (List ℕ)) (lead s : List ℕ) → all (all isPrivate) cs ≡ true → cutLines false lead (linesText cs ++ s) ≡ privates lead cs ++ cutLines false (lastLead lead cs) s
 unfolding all
 cut-privates [] lead s h = refl
 cut-privates (c ∷ cs) lead s h =
     rw (append_assoc c (byte "\n" ∷ linesText cs) s)
-    (one-line c lead (linesText cs ++ s) (and-left (all isPrivate c) (all (all isPrivate) cs) h)
-    ∙ ap (λ (ls : List Line). line 0 lead c ∷ ls) (cut-privates cs (bytes "\n") s (and-right (all isPrivate c) (all (all isPrivate) cs) h)))
+    (one-line c lead (linesText cs ++ s) (and_parts (all isPrivate c) (all (all isPrivate) cs) h).0
+    ∙ ap (λ (ls : List Line). line 0 lead c ∷ ls) (cut-privates cs (bytes "\n") s (and_parts (all isPrivate c) (all (all isPrivate) cs) h).1))
 
 last-same : (lead : List ℕ) (cs ds : List (List ℕ)) → length cs ≡ length ds → lastLead lead cs ≡ lastLead lead ds
 last-same lead [] [] e = refl
@@ -154,9 +149,9 @@ flagged-privates fs lead [] (d ∷ ds) e h k = absurd (omega arith)
 flagged-privates fs lead (c ∷ cs) [] e h k = absurd (omega arith)
 flagged-privates [] lead (c ∷ cs) (d ∷ ds) e h k =
     rw (sym (no-flags (privates (bytes "\n") cs)), sym (no-flags (privates (bytes "\n") ds)))
-    (one-more 0 lead c d (and-left (all isPrivate c) (all (all isPrivate) cs) h) (and-left (all isPrivate d) (all (all isPrivate) ds) k) (flagged-privates [] (bytes "\n") cs ds (omega arith) (and-right (all isPrivate c) (all (all isPrivate) cs) h) (and-right (all isPrivate d) (all (all isPrivate) ds) k)))
+    (one-more 0 lead c d (and_parts (all isPrivate c) (all (all isPrivate) cs) h).0 (and_parts (all isPrivate d) (all (all isPrivate) ds) k).0 (flagged-privates [] (bytes "\n") cs ds (omega arith) (and_parts (all isPrivate c) (all (all isPrivate) cs) h).1 (and_parts (all isPrivate d) (all (all isPrivate) ds) k).1))
 flagged-privates (f ∷ fs) lead (c ∷ cs) (d ∷ ds) e h k =
-    one-more f lead c d (and-left (all isPrivate c) (all (all isPrivate) cs) h) (and-left (all isPrivate d) (all (all isPrivate) ds) k) (flagged-privates fs (bytes "\n") cs ds (omega arith) (and-right (all isPrivate c) (all (all isPrivate) cs) h) (and-right (all isPrivate d) (all (all isPrivate) ds) k))
+    one-more f lead c d (and_parts (all isPrivate c) (all (all isPrivate) cs) h).0 (and_parts (all isPrivate d) (all (all isPrivate) ds) k).0 (flagged-privates fs (bytes "\n") cs ds (omega arith) (and_parts (all isPrivate c) (all (all isPrivate) cs) h).1 (and_parts (all isPrivate d) (all (all isPrivate) ds) k).1)
 
 -- ---- the lines of two bulletins that differ in private lines, of which there are some
 abbrev pub firstLead : List Line → ℕ

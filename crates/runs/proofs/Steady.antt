@@ -1,15 +1,11 @@
 -- Block rules of two lines that are alike but for a private body: both open the same kind, and close the same kinds. Each test of a start condition looks at
 -- bytes up to the private opening only, or begins at it; a complete tag and the closers correspond. A line of private bytes closes nothing.
-use mathlib.Core.Path.{◌≡◌, refl, sym, ◌∙◌, ap}
-use mathlib.Core.Bool.{Bool, true, false, ◌&&◌, ◌||◌, not}
-use mathlib.Core.List.{List, [], ◌∷◌, ◌++◌, append-nil}
-use Prim.Native.Nat.{ℕ, suc}
-use lib.Dec.{eqb, leb}
-use lib.ListN.{drop}
+use Rattle.std.proofs.Common.{◌≡◌, refl, sym, ◌∙◌, ap, Bool, true, false, ◌&&◌, ◌||◌, not, List, [], ◌∷◌, ◌++◌, append-nil, ℕ, suc, eqb, leb, drop}
+use Rattle.std.proofs.lemmas.Bool.{and_parts}
 use Rattle.lexical.specs.Text.{byte, bytes, first, run}
 use Rattle.lexical.specs.Byte.{isLetter, isTagNameByte}
 use Rattle.lexical.specs.Name.{all, isRawName, isBlockName}
-use Rattle.lexical.proofs.Cases.{split, and-right}
+use Rattle.lexical.proofs.Cases.{split}
 use Rattle.rules.specs.Search.{choose, begins, somewhere, Left, left, nothing, throughFirst}
 use Rattle.rules.specs.Tag.{blockTags, openTag, closingTag}
 use Rattle.rules.specs.Lines.{line}
@@ -64,7 +60,7 @@ module _ {w₁ w₂ q : List ℕ} where
     front-more c e f same =
         ap (λ (b : Bool). b && f (drop 1 s)) (front-same (c ∷ []) (rw e))
         ∙ and-same (begins (byte "<" ∷ c ∷ []) (x ∷ t)) (f (drop 1 s)) (f (drop 1 t))
-        (λ h. same (drop 1 s) (drop 1 t) (drop-pair (c ∷ []) (rw e) (begins-same (c ∷ []) (rw e) r ∙ and-right (eqb x (byte "<")) (begins (c ∷ []) t) h) r))
+        (λ h. same (drop 1 s) (drop 1 t) (drop-pair (c ∷ []) (rw e) (begins-same (c ∷ []) (rw e) r ∙ (and_parts (eqb x (byte "<")) (begins (c ∷ []) t) h).1) r))
 
     starts-raw : startsRaw (x ∷ s) ≡ startsRaw (x ∷ t)
     unfolding startsRaw

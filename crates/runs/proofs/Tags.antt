@@ -1,17 +1,13 @@
 -- Open and closing tags of two texts that are alike but for a private body: in every grammar, the one has a tag where the other has one, and what is left of
 -- them corresponds. A `<` ends every part of a tag but a quoted value, and a quoted value that meets the opening ends behind the body or nowhere.
 -- How many attributes and values are allowed differs with the length of the text, so the two are counted apart.
-use mathlib.Core.Path.{◌≡◌, refl, sym, ◌∙◌, ap}
-use mathlib.Core.Bool.{Bool, true, false, ◌&&◌, not}
-use mathlib.Core.List.{List, [], ◌∷◌}
-use Prim.Native.Nat.{ℕ, zero, suc, ◌<◌, ◌≤◌}
-use native.Mathlib.Omega.{arith}
-use lib.Dec.{eqb}
-use lib.ListN.{length, drop, length-drop}
+use Rattle.std.proofs.Common.{◌≡◌, refl, sym, ◌∙◌, ap, Bool, true, false, ◌&&◌, not, List, [], ◌∷◌, ℕ, zero, suc, ◌<◌, ◌≤◌, arith, eqb, length, drop, length-drop}
+use Rattle.std.proofs.Math.Bool.{and-false}
+use Rattle.std.proofs.lemmas.Bool.{and_parts}
 use Rattle.lexical.specs.Text.{byte, bytes, first}
 use Rattle.lexical.specs.Byte.{isLetter, isWhitespace, isTagNameByte, isAttributeNameByte, isQuote, isValueExcluded}
 use Rattle.lexical.specs.Name.{all}
-use Rattle.lexical.proofs.Cases.{split, clash, and-left, and-right}
+use Rattle.lexical.proofs.Cases.{split, clash}
 use Rattle.rules.specs.Search.{choose, begins, past, Left, orElse, exactly}
 use Rattle.rules.specs.Tag.{Grammar, tagEnd, pastQuote, specification, startsName, isValueByte, pastUnquoted, value, values, attribute, attributes, openTag, closingTag}
 use Rattle.rules.proofs.Past.{past-length}
@@ -145,9 +141,9 @@ module _ {w₁ w₂ q : List ℕ} (alike : Alike w₁ w₂ q) (g : Grammar) wher
       ap (λ (y : ℕ). isWhitespace y && startsName g (first (past isWhitespace s))) (first-same r) ∙ ap (λ (y : ℕ). isWhitespace (first t) && startsName g y) (first-same k) in
       choose-lefts (isWhitespace (first s) && startsName g (first (past isWhitespace s))) (isWhitespace (first t) && startsName g (first (past isWhitespace t))) e
       (λ h.
-      let l₁ = space-less s (and-left (isWhitespace (first s)) (startsName g (first (past isWhitespace s))) h) in
-      let l₂ = space-less t (and-left (isWhitespace (first t)) (startsName g (first (past isWhitespace t))) (sym e ∙ h)) in
-      attribute-lefts n₁ n₂ (attributes g n₁) (attributes g n₂) (λ s' t' c d k'. attributes-lefts n₁ n₂ c d k') (omega (arith, length-drop 1 (past isWhitespace s))) (omega (arith, length-drop 1 (past isWhitespace t))) (class-pair (startsName g) refl (and-right (isWhitespace (first s)) (startsName g (first (past isWhitespace s))) h) k))
+      let l₁ = space-less s (and_parts (isWhitespace (first s)) (startsName g (first (past isWhitespace s))) h).0 in
+      let l₂ = space-less t (and_parts (isWhitespace (first t)) (startsName g (first (past isWhitespace t))) (sym e ∙ h)).0 in
+      attribute-lefts n₁ n₂ (attributes g n₁) (attributes g n₂) (λ s' t' c d k'. attributes-lefts n₁ n₂ c d k') (omega (arith, length-drop 1 (past isWhitespace s))) (omega (arith, length-drop 1 (past isWhitespace t))) (class-pair (startsName g) refl (and_parts (isWhitespace (first s)) (startsName g (first (past isWhitespace s))) h).1 k))
       (λ h. end-lefts k)
 
 -- ---- tags from a byte before the opening on
@@ -159,25 +155,20 @@ open-lefts alike g x {s} {t} r =
     let e : a ≡ b = ap (λ (y : ℕ). (eqb x (byte "<") && true) && isLetter y) (first-same r) in
     choose-lefts a b e
     (λ h.
-    attributes-lefts alike g (length (x ∷ s)) (length (x ∷ t)) (omega (arith, past-length isTagNameByte (drop 1 s), length-drop 1 s)) (omega (arith, past-length isTagNameByte (drop 1 t), length-drop 1 t)) (past-pair isTagNameByte refl (class-pair isLetter refl (and-right (eqb x (byte "<") && true) (isLetter (first s)) h) r)))
+    attributes-lefts alike g (length (x ∷ s)) (length (x ∷ t)) (omega (arith, past-length isTagNameByte (drop 1 s), length-drop 1 s)) (omega (arith, past-length isTagNameByte (drop 1 t), length-drop 1 t)) (past-pair isTagNameByte refl (class-pair isLetter refl (and_parts (eqb x (byte "<") && true) (isLetter (first s)) h).1 r)))
     (λ h. nothings)
-
--- a test that ends in one that fails
-pub and-fails : (a : Bool) → (a && false) ≡ false
-and-fails true = refl
-and-fails false = refl
 
 pub close-lefts : {w₁ w₂ q : List ℕ} (x : ℕ) {s t : List ℕ} → Pair w₁ w₂ q s t → Lefts w₁ w₂ q (closingTag (x ∷ s)) (closingTag (x ∷ t))
 unfolding closingTag all
 close-lefts {w₁} {w₂} {q} x r = by-view (view r)
   where
     by-view : {s t : List ℕ} → View w₁ w₂ q s t → Lefts w₁ w₂ q (closingTag (x ∷ s)) (closingTag (x ∷ t))
-    by-view at-end = rw (and-fails (eqb x (byte "<"))) nothings
-    by-view at-opening = rw (and-fails (eqb x (byte "<"))) nothings
+    by-view at-end = rw (and-false (eqb x (byte "<"))) nothings
+    by-view at-opening = rw (and-false (eqb x (byte "<"))) nothings
     by-view (at-byte y {s} {t} k) =
         let a = (eqb x (byte "<") && (eqb y (byte "/") && true)) && isLetter (first s) in
         let b = (eqb x (byte "<") && (eqb y (byte "/") && true)) && isLetter (first t) in
         let e : a ≡ b = ap (λ (z : ℕ). (eqb x (byte "<") && (eqb y (byte "/") && true)) && isLetter z) (first-same k) in
         choose-lefts a b e
-        (λ h. exactly-lefts (bytes ">") refl (past-pair isWhitespace refl (past-pair isTagNameByte refl (class-pair isLetter refl (and-right (eqb x (byte "<") && (eqb y (byte "/") && true)) (isLetter (first s)) h) k))))
+        (λ h. exactly-lefts (bytes ">") refl (past-pair isWhitespace refl (past-pair isTagNameByte refl (class-pair isLetter refl (and_parts (eqb x (byte "<") && (eqb y (byte "/") && true)) (isLetter (first s)) h).1 k))))
         (λ h. nothings)

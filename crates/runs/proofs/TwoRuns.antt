@@ -1,15 +1,10 @@
--- Demand 3. Two bulletins that differ in a private piece which run one withholds have the same marks, and pieces that correspond; the piece that holds the
+-- Privacy. Two bulletins that differ in a private piece which run one withholds have the same marks, and pieces that correspond; the piece that holds the
 -- private one holds it in both, so that the same bytes are shown, and there are as many pieces.
-use mathlib.Core.Path.{◌≡◌, refl, sym, ◌∙◌, ap}
-use mathlib.Core.Bool.{Bool, true, false, ◌&&◌}
-use mathlib.Core.List.{List, [], ◌∷◌, ◌++◌, append_assoc}
-use Prim.Native.Nat.{ℕ, suc, ◌+◌, ◌-◌, ◌<◌, ◌≤◌}
-use native.Mathlib.Omega.{arith}
-use lib.Dec.{leb, ltb}
-use lib.ListN.{length, length-append}
-use borrow.Author.Tests.{le-leb, leb-true, leb-false, ltb-true, ltb-false}
+use Rattle.std.proofs.Common.{◌≡◌, refl, sym, ◌∙◌, ap, Bool, true, false, ◌&&◌, List, [], ◌∷◌, ◌++◌, append_assoc, ℕ, suc, ◌+◌, ◌-◌, ◌<◌, ◌≤◌, arith, leb, ltb, length, length-append, le-leb, leb-true, leb-false, ltb-true, ltb-false}
+use Rattle.std.proofs.lemmas.Bool.{and_parts}
+use Rattle.std.proofs.Math.Bool.{or-true}
 use Rattle.lexical.specs.Text.{byte}
-use Rattle.lexical.proofs.Cases.{split, and-left, and-right, or-yes}
+use Rattle.lexical.proofs.Cases.{split}
 use Rattle.rules.specs.Lines.{linesOf}
 use Rattle.rules.specs.Withhold.{Piece, marks, linePieces, pieces, shown, count, outside}
 use Rattle.rules.specs.Private.{any, spans, linesText, LinesSwap, isClosed, encloses, WithheldLines, SameRuns, TwoRuns, in-line, in-block}
@@ -42,7 +37,7 @@ any-more : (f g : Piece → Bool) → ((q : Piece) → f q ≡ true → g q ≡ 
 unfolding any
 any-more f g on [] h = h
 any-more f g on (q ∷ ps) h =
-    split (f q) (λ t. rw (on q t)) (λ t. rw (any-more f g on ps (rw t at h)) (or-yes (g q)))
+    split (f q) (λ t. rw (on q t)) (λ t. rw (any-more f g on ps (rw t at h)) (or-true (g q)))
 
 module _ (ρ : Rules) (flags : List ℕ) {one two : List ℕ} (d : LinesSwap one two) where
   abbrev p : ℕ
@@ -112,9 +107,9 @@ module _ (ρ : Rules) (flags : List ℕ) {one two : List ℕ} (d : LinesSwap one
       where
         within : (q : Piece) → encloses (suc p) (suc j₁) q ≡ true → spans p j₁ q ≡ true
         within q e =
-            let k = and-right (isClosed q.which) (ltb q.start (suc p) && leb (suc j₁) q.stop) e in
-            let a = ltb-true q.start (suc p) (and-left (ltb q.start (suc p)) (leb (suc j₁) q.stop) k) in
-            let b = leb-true (suc j₁) q.stop (and-right (ltb q.start (suc p)) (leb (suc j₁) q.stop) k) in
+            let k = (and_parts (isClosed q.which) (ltb q.start (suc p) && leb (suc j₁) q.stop) e).1 in
+            let a = ltb-true q.start (suc p) (and_parts (ltb q.start (suc p)) (leb (suc j₁) q.stop) k).0 in
+            let b = leb-true (suc j₁) q.stop (and_parts (ltb q.start (suc p)) (leb (suc j₁) q.stop) k).1 in
             rw (le-leb q.start p (omega arith), le-leb j₁ q.stop (omega arith))
 
     led-text : (cs : List (List ℕ)) → (d.before ++ (byte "\n" ∷ [])) ++ (linesText cs ++ d.after) ≡ d.before ++ (ledText cs ++ (byte "\n" ∷ d.after))

@@ -1,2 +1,2 @@
-// Two runs of withholding: no code, only the theorem of demand 3 over the definitions (proofs/TwoRuns.antt).
+// Two runs of withholding: no code, only the theorem of privacy over the definitions (proofs/TwoRuns.antt).
 #![tactic(auto)]

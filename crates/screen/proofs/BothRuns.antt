@@ -1,13 +1,7 @@
 -- Two runs of the code show the same: each run that is not refused shows what the definition says, in the front of its buffer, and over the definition two runs
 -- show the same.
-use mathlib.Core.Path.{◌≡◌, refl, sym, ◌∙◌, ap}
-use mathlib.Core.Bool.{Bool, true, false}
-use mathlib.Core.List.{List}
-use Prim.Native.Nat.{ℕ}
-use lib.Dec.{eqb}
-use lib.ListN.{length, take, drop}
+use Rattle.std.proofs.Common.{◌≡◌, refl, sym, ◌∙◌, ap, Bool, true, false, List, ℕ, eqb, length, take, drop, eqb-true}
 use lib.Seq.{take-append_seam}
-use borrow.Author.Tests.{eqb-true}
 use Rattle.lexical.proofs.Cases.{split, clash}
 use Rattle.rules.specs.Refusal.{bulletinRefusal}
 use Rattle.rules.specs.Withhold.{shown, count, Shown, shows, refusedShown, withhold, withholdRefusal, written}

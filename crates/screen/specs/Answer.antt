@@ -1,9 +1,11 @@
--- What an answer of withholding says, by 01's numbers and values for each case.
+-- What an answer of withholding says, by the numbers and values of each case.
+use Rattle.std.specs.Prelude.{Result, Ok, Err}
+use Rattle.rules.specs.Refusal.{refusalNumber}
 use Rattle.rules.specs.Withhold.{Shown, shows, refusedShown}
+use Rattle.rules.specs.declared.refusal.Refusal.{Refusal}
 use Rattle.screen.specs.declared.withhold.Withheld.{Withheld}
-use Rattle.screen.specs.declared.withhold.Withheld.TheVariants.{Shown as ShownBytes, Refused}
 
 -- the shown length and the number of pieces; or a refusal with its number
-abbrev pub shownOf : Withheld → Shown
-shownOf (ShownBytes length pieces) = shows length pieces
-shownOf (Refused refusal) = refusedShown refusal
+abbrev pub shownOf : Result Withheld Refusal → Shown
+shownOf (Ok w) = shows w.length w.pieces
+shownOf (Err r) = refusedShown (refusalNumber r)

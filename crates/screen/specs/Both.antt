@@ -1,4 +1,4 @@
--- Demand 3 of two runs of the code: 01, Private pieces.
+-- Two runs of the code where a private piece differs: docs/SCOPE.md, private pieces.
 use Rattle.std.specs.Prelude.{◌≡◌, List, ℕ, take}
 use Rattle.rules.specs.Withhold.{Shown, shows, refusedShown}
 use Rattle.rules.specs.Private.{Swap}

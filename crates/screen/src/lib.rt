@@ -1,4 +1,4 @@
-// Withholding raw HTML from a bulletin: 01, Withhold.
+// Withholding raw HTML from a bulletin.
 #![tactic(auto)]
 
 pub mod both;

@@ -1,123 +1,82 @@
-// Withholding: 01, Withhold.
+// Withholding: a bulletin is shown without its raw HTML.
 ghost use Rattle.std.specs.Prelude.{◌≡◌, ◌≤◌, leb, length};
-ghost use Rattle.rules.specs.Reading.{crate as ofCrate, standard};
-ghost use Rattle.rules.specs.Withhold.{shown, count, withhold as withholdOf, withholdRefusal, written};
+ghost use Rattle.rules.specs.Withhold.{shown, withhold as withholdOf, withholdRefusal, written};
 ghost use Rattle.screen.specs.Answer.{shownOf};
-ghost use Rattle.screen.specs.Shows.{Shows};
+ghost use Rattle.screen.specs.Shows.{shownBy, Shows};
 
-use flow::scan::bulletin_refusal;
+use flow::scan::check_bulletin;
 use lexical::copy::copy_part;
-use rules::{NO_ROOM, Rules, crate_rules, standard_rules};
-use walk::pieces::{Next, at_line, next_piece};
+use rules::Rules;
+use rules::refusal::Refusal;
+use walk::bulletin::Bulletin;
 
-// The shown length and the number of pieces withheld, or a refusal.
-#[derive(Clone, Copy)]
-pub enum Withheld {
-    Shown { length: usize, pieces: usize },
-    Refused { refusal: u8 },
+// The shown length, and the number of pieces withheld.
+#[derive(Clone, Copy, Debug, PartialEq, Eq)]
+pub struct Withheld {
+    pub length: usize,
+    pub pieces: usize,
 }
 
 // How many bytes are shown.
-fn shown_length(rules: Rules, bulletin: &[u8], flags: &[u8]) -> usize
-    ensures { result ≡ length (shown rules bulletin.now flags.now) }
+fn shown_length(bulletin: Bulletin<'_>) -> usize
+    ensures { result ≡ length (shownBy bulletin.entry) }
 {
-    let mut cursor = at_line(0, 0);
     let mut from = 0;
     let mut size = 0;
-    while from < bulletin.len() {
-        match next_piece(rules, bulletin, flags, cursor) {
-            Next::Piece {
-                start,
-                stop,
-                block: _,
-                cursor: behind,
-            } => {
-                size += start - from;
-                from = stop;
-                cursor = behind;
-            }
-            Next::End => {
-                size += bulletin.len() - from;
-                from = bulletin.len();
-            }
-        }
+    for piece in bulletin.pieces() {
+        size += piece.start - from;
+        from = piece.stop;
     }
-    size
+    size + (bulletin.text.len() - from)
 }
 
 // Writes what is shown to the front of a buffer that has room for it.
-fn show(rules: Rules, bulletin: &[u8], flags: &[u8], out: &mut [u8]) -> Withheld
-    requires { length (shown rules bulletin.now flags.now) ≤ length out.old }
-    ensures { Shows (shown rules bulletin.now flags.now) (count rules bulletin.now flags.now) out.old result out.new }
+fn show(bulletin: Bulletin<'_>, out: &mut [u8]) -> Withheld
+    requires { length (shownBy bulletin) ≤ length out.old }
+    ensures { Shows bulletin.entry out.old result out.new }
 {
-    let mut cursor = at_line(0, 0);
+    let text = bulletin.text;
     let mut from = 0;
     let mut size = 0;
     let mut pieces = 0;
-    while from < bulletin.len() {
-        match next_piece(rules, bulletin, flags, cursor) {
-            Next::Piece {
-                start,
-                stop,
-                block: _,
-                cursor: behind,
-            } => {
-                copy_part(bulletin, from, start, out, size);
-                size += start - from;
-                pieces += 1;
-                from = stop;
-                cursor = behind;
-            }
-            Next::End => {
-                copy_part(bulletin, from, bulletin.len(), out, size);
-                size += bulletin.len() - from;
-                from = bulletin.len();
-            }
-        }
+    for piece in bulletin.pieces() {
+        copy_part(text, from, piece.start, out, size);
+        size += piece.start - from;
+        from = piece.stop;
+        pieces += 1;
     }
-    Withheld::Shown {
-        length: size,
+    copy_part(text, from, text.len(), out, size);
+    Withheld {
+        length: size + (text.len() - from),
         pieces,
     }
 }
 
 // Whether a buffer has room for what is shown. Where it has room for the whole bulletin, nothing is counted.
-fn has_room(rules: Rules, bulletin: &[u8], flags: &[u8], room: usize) -> bool
-    ensures { result ≡ leb (length (shown rules bulletin.now flags.now)) room }
+fn has_room(bulletin: Bulletin<'_>, room: usize) -> bool
+    ensures { result ≡ leb (length (shownBy bulletin.entry)) room }
 {
-    if bulletin.len() <= room {
-        return true;
-    }
-    shown_length(rules, bulletin, flags) <= room
+    bulletin.text.len() <= room || shown_length(bulletin) <= room
 }
 
 // Shows a bulletin without its raw HTML, in any reading.
-pub(crate) fn withhold_by(rules: Rules, bulletin: &[u8], flags: &[u8], out: &mut [u8]) -> Withheld
+pub fn withhold(
+    rules: Rules,
+    bulletin: &[u8],
+    flags: &[u8],
+    out: &mut [u8],
+) -> Result<Withheld, Refusal>
     ensures answer { shownOf result ≡ withholdOf rules bulletin.now flags.now (length out.old) }
     ensures buffer { out.new ≡ written (withholdRefusal rules bulletin.now flags.now (length out.old)) (shown rules bulletin.now flags.now) out.old }
 {
-    let refusal = bulletin_refusal(bulletin, flags);
-    if refusal != 0 {
-        return Withheld::Refused { refusal };
+    check_bulletin(bulletin, flags)?;
+    let whole = Bulletin {
+        rules,
+        text: bulletin,
+        flags,
+    };
+    if !has_room(whole, out.len()) {
+        return Err(Refusal::NoRoom);
     }
-    if !has_room(rules, bulletin, flags, out.len()) {
-        return Withheld::Refused { refusal: NO_ROOM };
-    }
-    show(rules, bulletin, flags, out)
-}
-
-// Shows a bulletin without its raw HTML, with all eight changes.
-pub fn withhold(bulletin: &[u8], flags: &[u8], out: &mut [u8]) -> Withheld
-    ensures answer { shownOf result ≡ withholdOf ofCrate bulletin.now flags.now (length out.old) }
-    ensures buffer { out.new ≡ written (withholdRefusal ofCrate bulletin.now flags.now (length out.old)) (shown ofCrate bulletin.now flags.now) out.old }
-{
-    withhold_by(crate_rules(), bulletin, flags, out)
-}
-
-// Shows a bulletin without its raw HTML by the standard, with none of the changes.
-pub fn standard_withhold(bulletin: &[u8], flags: &[u8], out: &mut [u8]) -> Withheld
-    ensures answer { shownOf result ≡ withholdOf standard bulletin.now flags.now (length out.old) }
-    ensures buffer { out.new ≡ written (withholdRefusal standard bulletin.now flags.now (length out.old)) (shown standard bulletin.now flags.now) out.old }
-{
-    withhold_by(standard_rules(), bulletin, flags, out)
+    Ok(show(whole, out))
 }

@@ -1,17 +1,11 @@
 -- How long the output can be: no five bytes become more than eight. Only `<` grows, to four bytes, and behind it stand four bytes or more that are no `<`, which stay:
 -- a name of three or more, and what follows it. So bytes in front that are no `<` are worth three bytes each that a tag may use up.
-use mathlib.Core.Path.{◌≡◌, refl}
-use mathlib.Core.Bool.{Bool, true, false, ◌&&◌, not}
-use mathlib.Core.List.{List, [], ◌∷◌}
-use Prim.Native.Nat.{ℕ, suc, ◌+◌, ◌*◌, ◌-◌, ◌≤◌}
-use native.Mathlib.Omega.{arith}
-use lib.Dec.{eqb}
-use lib.ListN.{length, drop, length-take}
-use borrow.Author.Tests.{eqb-true}
+use Rattle.std.proofs.Common.{◌≡◌, refl, Bool, true, false, ◌&&◌, not, List, [], ◌∷◌, ℕ, suc, ◌+◌, ◌*◌, ◌-◌, ◌≤◌, arith, eqb, length, drop, length-take, eqb-true}
+use Rattle.std.proofs.lemmas.Bool.{and_parts}
 use Rattle.lexical.specs.Text.{byte, bytes, run}
 use Rattle.lexical.specs.Byte.{isTagNameByte}
 use Rattle.lexical.specs.Name.{isDisallowedName}
-use Rattle.lexical.proofs.Cases.{split, clash, excluded, and-left, and-right}
+use Rattle.lexical.proofs.Cases.{split, clash, excluded}
 use Rattle.lexical.proofs.Members.{disallowed-length}
 use Rattle.rules.specs.Search.{begins}
 use Rattle.rules.specs.Block.{nameOf, afterName}
@@ -42,15 +36,15 @@ past-name (x ∷ s) h =
 
 name-others : (s : List ℕ) → disallowedName s ≡ true → 4 ≤ run isOther s
 name-others s h =
-    let n = disallowed-length (nameOf s) (and-left (isDisallowedName (nameOf s)) (endsTagName (afterName s)) h) in
-    let l = past-name s (and-right (isDisallowedName (nameOf s)) (endsTagName (afterName s)) h) in
+    let n = disallowed-length (nameOf s) (and_parts (isDisallowedName (nameOf s)) (endsTagName (afterName s)) h).0 in
+    let l = past-name s (and_parts (isDisallowedName (nameOf s)) (endsTagName (afterName s)) h).1 in
     omega (arith, n, l, length-take (run isTagNameByte s) s)
 
 slash-others : (s : List ℕ) → begins (bytes "/") s ≡ true → disallowedName (drop 1 s) ≡ true → 4 ≤ run isOther s
 unfolding run
 slash-others [] h d = clash false h refl
 slash-others (x ∷ s) h d =
-    let e = eqb-true x (byte "/") (and-left (eqb x (byte "/")) true h) in
+    let e = eqb-true x (byte "/") (and_parts (eqb x (byte "/")) true h).0 in
     let l = name-others s d in
     rw e (omega (arith, l))
 
@@ -58,11 +52,11 @@ tag-others : (x : ℕ) (s : List ℕ) → isDisallowed (x ∷ s) ≡ true → 4 
 unfolding isDisallowed
 tag-others x s h =
     split (begins (bytes "<") (x ∷ s) && disallowedName s)
-    (λ e. name-others s (and-right (begins (bytes "<") (x ∷ s)) (disallowedName s) e))
+    (λ e. name-others s (and_parts (begins (bytes "<") (x ∷ s)) (disallowedName s) e).1)
     (λ e.
     let g : (begins (bytes "</") (x ∷ s) && disallowedName (drop 1 s)) ≡ true = rw e at h in
-    slash-others s (and-right (eqb x (byte "<")) (begins (bytes "/") s) (and-left (begins (bytes "</") (x ∷ s)) (disallowedName (drop 1 s)) g))
-    (and-right (begins (bytes "</") (x ∷ s)) (disallowedName (drop 1 s)) g))
+    slash-others s (and_parts (eqb x (byte "<")) (begins (bytes "/") s) (and_parts (begins (bytes "</") (x ∷ s)) (disallowedName (drop 1 s)) g).0).1
+    (and_parts (begins (bytes "</") (x ∷ s)) (disallowedName (drop 1 s)) g).1)
 
 -- ---- k bytes in front are no `<`
 bounded : (i : ℕ) (ps : List Piece) (s : List ℕ) (k : ℕ) → k ≤ run isOther s → 5 * length (replaced i ps s) + 3 * k ≤ 8 * length s
@@ -71,7 +65,7 @@ bounded i ps [] k h = omega arith
 bounded i ps (x ∷ s) k h =
     split (isCounted i ps && isDisallowed (x ∷ s))
     (λ t.
-    let d = and-right (isCounted i ps) (isDisallowed (x ∷ s)) t in
+    let d = (and_parts (isCounted i ps) (isDisallowed (x ∷ s)) t).1 in
     let l = bounded (suc i) ps s 4 (tag-others x s d) in
     split (eqb x (byte "<")) (λ e. let z = rw e at h in rw t (omega (arith, l, z))) (λ e. clash (isDisallowed (x ∷ s)) d (not-a-tag x s e)))
     (λ t.

@@ -1,23 +1,17 @@
 -- Parts of a bulletin. What is no `<` stays as it is, so from one `<` to the next nothing is replaced; at a tag four bytes come in place of one. A part is written
 -- from tag to tag: what is done and what is to come are together the whole.
-use mathlib.Core.Path.{◌≡◌, refl, sym, ◌∙◌, ap}
-use mathlib.Core.Bool.{Bool, true, false}
-use mathlib.Core.List.{List, [], ◌∷◌, ◌++◌, append_assoc, append-nil}
-use Prim.Native.Nat.{ℕ, zero, suc, ◌+◌, ◌*◌, ◌-◌, ◌<◌, ◌≤◌}
-use native.Mathlib.Omega.{arith}
-use lib.Dec.{eqb}
-use lib.ListN.{length, get_or, set, take, drop, length-append, length-drop}
-use lib.Seq.{drop-drop, length-take-le}
+use Rattle.std.proofs.Common.{◌≡◌, refl, sym, ◌∙◌, ap, Bool, true, false, List, [], ◌∷◌, ◌++◌, append_assoc, append-nil, ℕ, zero, suc, ◌+◌, ◌*◌, ◌-◌, ◌<◌, ◌≤◌, arith, eqb, length, get_or, take, drop, length-append, length-drop, drop-drop, length-take-le}
+use Rattle.std.proofs.lemmas.List.{drop_more}
 use Rattle.lexical.specs.Text.{byte, bytes, run}
-use Rattle.lexical.specs.Buffer.{stored, Written}
+use Rattle.lexical.specs.Buffer.{Written}
 use Rattle.lexical.proofs.Cases.{split, excluded}
-use Rattle.lexical.proofs.Suffix.{suffix-in, drop-take, parts}
+use Rattle.lexical.proofs.Suffix.{drop-take, parts}
 use Rattle.lexical.proofs.Run.{run-length}
 use Rattle.lexical.proofs.Stores.{nothing-written, then, same, written-as, written-whole}
 use Rattle.rules.specs.Search.{choose}
 use Rattle.rules.specs.Filter.{isDisallowed}
 use Rattle.walk.specs.Remaining.{isPlain}
-use Rattle.tagfilter.specs.Part.{replacedPart, replacedBetween, Passed, NextTag, WritesPart}
+use Rattle.tagfilter.specs.Part.{replacedPart, replacedBetween, Passed, TagAt, WritesPart}
 
 -- ---- what is no `<`
 pub not-a-tag : (x : ℕ) (xs : List ℕ) → eqb x (byte "<") ≡ false → isDisallowed (x ∷ xs) ≡ false
@@ -89,66 +83,59 @@ module _ (text : List ℕ) (stop : ℕ) where
     here b e =
         let z : stop - i ≡ suc (stop - (i + 1)) = omega arith in
         let k : i < length text = omega arith in
-        let t : isDisallowed (get_or text i 0 ∷ drop (i + 1) text) ≡ b = ap isDisallowed (sym (suffix-in text i k)) ∙ e in
-        rw (z, suffix-in text i k, t)
+        let t : isDisallowed (get_or text i 0 ∷ drop (i + 1) text) ≡ b = ap isDisallowed (sym (drop_more text i 0 k)) ∙ e in
+        rw (z, drop_more text i 0 k, t)
 
     -- over one byte
     pub passed-one : isDisallowed (drop i text) ≡ false → Passed text stop i (i + 1)
     passed-one e =
         let z : i + 1 - i ≡ 1 = omega arith in
         let k : i < length text = omega arith in
-        record { from = omega arith; to = omega arith; same = here false e ∙ sym (rw (z, suffix-in text i k)) }
+        record { from = omega arith; to = omega arith; same = here false e ∙ sym (rw (z, drop_more text i 0 k)) }
 
     -- at a tag
     pub at-tag : isDisallowed (drop i text) ≡ true → replacedBetween text i stop ≡ bytes "&lt;" ++ replacedBetween text (i + 1) stop
     at-tag e = here true e
 
-  pub nothing-left : replacedBetween text stop stop ≡ []
+  -- up to the stop
+  pub passed-all : (i j : ℕ) → Passed text stop i j → stop ≤ j → replacedBetween text i stop ≡ take (stop - i) (drop i text)
   unfolding replacedPart
-  nothing-left = let z : stop - stop ≡ 0 = omega arith in rw z
+  passed-all i j p h =
+      let e : j ≡ stop = omega (arith, p.to) in
+      let z : stop - stop ≡ 0 = omega arith in
+      p.same ∙ ap (λ (k : ℕ). take (k - i) (drop i text) ++ replacedBetween text k stop) e ∙ rw z (append-nil (take (stop - i) (drop i text)))
 
   -- ---- the length
   abbrev sizeFrom : ℕ → ℕ
   sizeFrom i = length (replacedBetween text i stop)
 
-  -- size has the bytes from the start on and three more for each tag before the one at hand
-  pub record Counted (start tag size : ℕ) : Type 0 where
-    pub sum : size + sizeFrom tag ≡ stop - tag + sizeFrom start
-    pub to : tag ≤ stop
-    pub found : tag < stop → isDisallowed (drop tag text) ≡ true
+  -- size has the bytes from the start on and three more for each tag before the place
+  pub record Counted (start from size : ℕ) : Type 0 where
+    pub to : from ≤ stop
+    pub sum : size + sizeFrom from ≡ stop - from + sizeFrom start
 
   module _ (l : stop ≤ length text) where
-    pub between-length : (i j : ℕ) → Passed text stop i j → length (take (j - i) (drop i text)) ≡ j - i
-    between-length i j p = let a = p.from in let b = p.to in length-take-le (j - i) (drop i text) (omega (arith, length-drop i text))
+    pub between-length : (i j : ℕ) → i ≤ j → j ≤ stop → length (take (j - i) (drop i text)) ≡ j - i
+    between-length i j a b = length-take-le (j - i) (drop i text) (omega (arith, length-drop i text))
 
     passed-length : (i j : ℕ) → Passed text stop i j → sizeFrom i ≡ j - i + sizeFrom j
-    passed-length i j p = omega (arith, ap length p.same ∙ length-append (take (j - i) (drop i text)) (replacedBetween text j stop), between-length i j p)
+    passed-length i j p = omega (arith, ap length p.same ∙ length-append (take (j - i) (drop i text)) (replacedBetween text j stop), between-length i j p.from p.to)
 
-    module _ (start : ℕ) where
-      pub counted-start : (tag : ℕ) → NextTag text start stop tag → Counted start tag (stop - start)
-      counted-start tag n =
-          let p = n.passed in
-          let a = p.from in
-          let b = p.to in
-          record { sum = omega (arith, passed-length start tag p); to = b; found = n.tag }
+    pub counted-start : (start : ℕ) → start ≤ stop → Counted start start (stop - start)
+    counted-start start h = record { to = h; sum = refl }
 
-      module _ (tag size : ℕ) (c : Counted start tag size) where
-        pub counted-on : tag < stop → (next : ℕ) → NextTag text (tag + 1) stop next → Counted start next (size + 3)
-        counted-on h next n =
-            let p = n.passed in
-            let a = p.from in
-            let b = p.to in
-            let t = ap length (at-tag tag h l (c.found h)) in
-            record { sum = omega (arith, passed-length (tag + 1) next p, t, c.sum); to = b; found = n.tag }
+    module _ {start from size : ℕ} (c : Counted start from size) where
+      pub counted-on : {tag : ℕ} → TagAt text from stop tag → Counted start (tag + 1) (size + 3)
+      counted-on {tag} t =
+          let a = t.passed.from in
+          let h = t.within in
+          record { to = omega arith; sum = omega (arith, passed-length from tag t.passed, ap length (at-tag tag h l t.tag), c.sum) }
 
-        pub counted-bound : size ≤ stop + 4 * stop
-        counted-bound = omega (arith, c.sum, part-bound (stop - start) (drop start text))
+      pub counted-bound : size ≤ stop + 4 * stop
+      counted-bound = omega (arith, c.sum, part-bound (stop - start) (drop start text))
 
-        pub counted-end : stop ≤ tag → size ≡ sizeFrom start
-        counted-end h =
-            let e : tag ≡ stop = omega (arith, c.to) in
-            let z : sizeFrom tag ≡ 0 = ap sizeFrom e ∙ ap length nothing-left in
-            omega (arith, z, c.sum)
+      pub counted-end : replacedBetween text from stop ≡ take (stop - from) (drop from text) → size ≡ sizeFrom start
+      counted-end e = let q : stop ≤ stop = omega arith in omega (arith, ap length e, between-length from stop c.to q, c.sum)
 
 -- ---- writing
 -- of the bytes of a whole, those in front are written, and the rest is to come
@@ -193,57 +180,47 @@ module _ (text : List ℕ) (start stop : ℕ) (l : stop ≤ length text) (old : 
   abbrev whole : List ℕ
   whole = replacedBetween text start stop
 
-  module _ (out : List ℕ) (from size tag : ℕ) (u : UpTo old at whole out size (replacedBetween text from stop)) (n : NextTag text from stop tag) where
-    abbrev passed : List ℕ
-    passed = take (tag - from) (drop from text)
-
-    front-length : length passed ≡ tag - from
-    front-length = between-length text stop l from tag n.passed
-
+  module _ {out : List ℕ} {from size : ℕ} (u : UpTo old at whole out size (replacedBetween text from stop)) where
     -- a tag: what stands before it, and `&lt;`
-    module _ (h : tag < stop) where
+    module _ {tag : ℕ} (t : TagAt text from stop tag) where
+      abbrev passed : List ℕ
+      passed = take (tag - from) (drop from text)
+
       abbrev more : List ℕ
       more = replacedBetween text (tag + 1) stop
 
+      front-length : length passed ≡ tag - from
+      front-length = between-length text stop l from tag t.passed.from t.passed.to
+
       splits : replacedBetween text from stop ≡ passed ++ (bytes "&lt;" ++ more)
-      splits = n.passed.same ∙ ap (λ (t : List ℕ). passed ++ t) (at-tag text stop tag h l (n.tag h))
+      splits = t.passed.same ∙ ap (λ (s : List ℕ). passed ++ s) (at-tag text stop tag t.within l t.tag)
 
       pub room-here : size + (tag - from) + 4 ≤ length old
       room-here = omega (arith, to-come old at whole out size _ u, ap length splits ∙ length-append passed (bytes "&lt;" ++ more), front-length)
 
-      pub tag-written : (mid new : List ℕ) → Written out size (take (length out - size) passed) mid → Written mid (size + (tag - from)) (bytes "&lt;") new
-          → UpTo old at whole new (size + (tag - from) + 4) more
+      pub tag-written : (mid new : List ℕ) → Written out size (take (length out - size) passed) mid
+          → Written mid (size + (tag - from)) (take (length mid - (size + (tag - from))) (bytes "&lt;")) new → UpTo old at whole new (size + (tag - from) + 4) more
       tag-written mid new v w =
           let copied = copied-whole old at whole out size _ u room passed (bytes "&lt;" ++ more) mid splits v in
           let first = up-to-on old at whole out size _ u passed (bytes "&lt;" ++ more) mid (size + (tag - from)) splits copied (ap (λ (k : ℕ). size + k) (sym front-length)) in
-          up-to-on old at whole mid (size + (tag - from)) _ first (bytes "&lt;") more new (size + (tag - from) + 4) refl w refl
+          let entity = copied-whole old at whole mid (size + (tag - from)) _ first room (bytes "&lt;") more new refl w in
+          up-to-on old at whole mid (size + (tag - from)) _ first (bytes "&lt;") more new (size + (tag - from) + 4) refl entity refl
 
     -- no more tags: the rest
-    module _ (h : stop ≤ tag) where
-      rest-is : replacedBetween text from stop ≡ take (stop - from) (drop from text) ++ []
-      rest-is =
-          let e : tag ≡ stop = omega (arith, n.passed.to) in
-          n.passed.same
-          ∙ ap (λ (k : ℕ). take (k - from) (drop from text) ++ replacedBetween text k stop) e
-          ∙ ap (λ (t : List ℕ). take (stop - from) (drop from text) ++ t) (nothing-left text stop)
+    module _ (h : from ≤ stop) (e : replacedBetween text from stop ≡ take (stop - from) (drop from text)) where
+      abbrev rest : List ℕ
+      rest = take (stop - from) (drop from text)
 
-      rest-length : length (take (stop - from) (drop from text)) ≡ stop - from
-      rest-length = let e : tag ≡ stop = omega (arith, n.passed.to) in ap (λ (k : ℕ). length (take (k - from) (drop from text))) (sym e) ∙ front-length ∙ ap (λ (k : ℕ). k - from) e
+      rest-is : replacedBetween text from stop ≡ rest ++ []
+      rest-is = e ∙ sym (append-nil rest)
+
+      rest-length : length rest ≡ stop - from
+      rest-length = let q : stop ≤ stop = omega arith in between-length text stop l from stop h q
 
       pub room-behind : size + (stop - from) ≤ length old
-      room-behind = omega (arith, to-come old at whole out size _ u, ap length rest-is ∙ length-append (take (stop - from) (drop from text)) [], rest-length)
+      room-behind = omega (arith, to-come old at whole out size _ u, ap length e, rest-length)
 
-      pub rest-written : (new : List ℕ) → Written out size (take (length out - size) (take (stop - from) (drop from text))) new → WritesPart old at whole new (size + (stop - from))
+      pub rest-written : (new : List ℕ) → Written out size (take (length out - size) rest) new → WritesPart old at whole new (size + (stop - from))
       rest-written new v =
-          let rest = take (stop - from) (drop from text) in
           let copied = copied-whole old at whole out size _ u room rest [] new rest-is v in
           part-written old at whole new (size + (stop - from)) (up-to-on old at whole out size _ u rest [] new (size + (stop - from)) rest-is copied (ap (λ (k : ℕ). size + k) (sym rest-length)))
-
--- `&lt;`, byte by byte
-pub entity-written : (l : List ℕ) (at : ℕ) → Written l at (bytes "&lt;") (set (set (set (set l at (byte "&")) (at + 1) (byte "l")) (at + 2) (byte "t")) (at + 3) (byte ";"))
-unfolding stored
-entity-written l at =
-    let a : at + 1 ≡ suc at = omega arith in
-    let b : at + 2 ≡ suc (suc at) = omega arith in
-    let c : at + 3 ≡ suc (suc (suc at)) = omega arith in
-    record { is = rw (a, b, c) }

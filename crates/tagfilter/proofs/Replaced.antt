@@ -1,22 +1,16 @@
 -- The filter from piece to piece: the bytes before the first piece are as they were, then comes what is made of the piece, and then what the other pieces make of
 -- the bytes from its stop on. In a piece, tags are replaced up to where its places end that can count, and all else is as it was.
-use mathlib.Core.Path.{◌≡◌, refl, sym, ◌∙◌, ap}
-use mathlib.Core.Bool.{Bool, true, false, ◌&&◌}
-use mathlib.Core.List.{List, [], ◌∷◌, ◌++◌, append_assoc}
-use Prim.Native.Nat.{ℕ, zero, suc, ◌+◌, ◌-◌, ◌<◌, ◌≤◌}
-use native.Mathlib.Nat.{add-zero}
-use native.Mathlib.Omega.{arith}
-use lib.Dec.{leb, ltb}
-use lib.ListN.{take, drop}
-use lib.Seq.{drop-drop}
-use borrow.Author.Tests.{eq-eqb, ne_eqb, le-leb, lt-leb, lt-ltb, le-ltb, ltb-true, ltb-false}
+use Rattle.std.proofs.Common.{◌≡◌, refl, sym, ◌∙◌, ap, Bool, true, false, ◌&&◌, List, [], ◌∷◌, ◌++◌, append_assoc, ℕ, zero, suc, ◌+◌, ◌-◌, ◌<◌, ◌≤◌, add-zero, arith, leb, ltb, take, drop, drop-drop, eq-eqb, ne_eqb, le-leb, lt-ltb, le-ltb, ltb-true, ltb-false}
+use Rattle.std.proofs.Math.Bool.{and-false}
+use borrow.Author.Tests.{lt-leb}
 use Rattle.lexical.specs.Text.{bytes}
-use Rattle.lexical.proofs.Cases.{split, and-no}
+use Rattle.lexical.proofs.Cases.{split}
 use Rattle.rules.specs.Search.{choose}
 use Rattle.rules.specs.Withhold.{Which, inline, block, Piece, piece}
 use Rattle.rules.specs.Filter.{isDisallowed, countsIn, isCounted, replaced}
 use Rattle.runs.proofs.Ordered.{Ordered, none, one-more}
 use Rattle.walk.specs.Remaining.{isBlock}
+use Rattle.walk.proofs.Replacing.{told}
 use Rattle.tagfilter.specs.Part.{replacedPart, countedEnd, pieceBytes}
 
 pub replaced-none : (i : ℕ) (s : List ℕ) → replaced i [] s ≡ s
@@ -40,7 +34,7 @@ counts-is inline i a b =
     (λ l.
     let h = ltb-false i a l in
     split (ltb a i)
-    (λ m. let g = ltb-true a i m in rw (ne_eqb i a (λ e. omega (arith, e, g)), le-ltb i (a + 1) (omega (arith, g))) (sym (and-no (leb a i))))
+    (λ m. let g = ltb-true a i m in rw (ne_eqb i a (λ e. omega (arith, e, g)), le-ltb i (a + 1) (omega (arith, g))) (sym (and-false (leb a i))))
     (λ m. let g = ltb-false a i m in rw (eq-eqb i a (omega (arith, h, g)), le-leb a i h, lt-ltb i (a + 1) (omega (arith, g)))))
 counts-is (block k c) i a b = refl
 
@@ -55,7 +49,7 @@ module _ (w : Which) (a b : ℕ) where
   not-before i l = counts-is w i a b ∙ rw (lt-leb a i l)
 
   not-behind : (i : ℕ) → end ≤ i → countsIn w i (piece a b w) ≡ false
-  not-behind i h = counts-is w i a b ∙ rw (le-ltb i end h) (and-no (leb a i))
+  not-behind i h = counts-is w i a b ∙ rw (le-ltb i end h) (and-false (leb a i))
 
 -- ---- before the pieces
 before-none : {lo hi : ℕ} {ps : List Piece} (i : ℕ) → Ordered lo hi ps → i < lo → isCounted i ps ≡ false
@@ -101,7 +95,7 @@ module _ (w : Which) (a b hi : ℕ) (ps : List Piece) (some : a < b) (o : Ordere
       rw (counts w a b i h (omega (arith, e)), in-part n (suc i) s (omega arith) (omega (arith, e))) (step-append (isDisallowed (x ∷ s)) x (replacedPart n s) (replaced (end w a b) here (drop n s)))
 
   -- s is the bulletin from the piece's start on
-  pub at-piece : (text : List ℕ) → replaced a here (drop a text) ≡ pieceBytes text (isBlock w) a b ++ replaced b ps (drop b text)
+  pub at-piece : (text : List ℕ) → replaced a here (drop a text) ≡ pieceBytes text (told (piece a b w)) ++ replaced b ps (drop b text)
   at-piece text =
       let c = end w a b in
       let l = end-some (isBlock w) a b some in
@@ -121,7 +115,7 @@ module _ (w : Which) (a b hi : ℕ) (ps : List Piece) (some : a < b) (o : Ordere
 -- ---- the whole: before the first piece, of it, and from its stop on
 pub replaced-next : (text : List ℕ) (from hi : ℕ) (p : Piece) (ps : List Piece) → Ordered from hi (p ∷ ps)
     → replaced from (p ∷ ps) (drop from text)
-    ≡ take (p.start - from) (drop from text) ++ (pieceBytes text (isBlock p.which) p.start p.stop ++ replaced p.stop ps (drop p.stop text))
+    ≡ take (p.start - from) (drop from text) ++ (pieceBytes text (told p) ++ replaced p.stop ps (drop p.stop text))
 replaced-next text from hi p ps (one-more a b o) =
     let same : p.start ≤ p.start = omega arith in
     let n = p.start - from in

@@ -1,87 +1,62 @@
 -- A tag that the filter replaces, by the tests of the code. It begins with `<`; where `/` follows, the name stands behind that, since no name begins with `/`.
-use mathlib.Core.Path.{◌≡◌, refl, sym, ◌∙◌, ap}
-use mathlib.Core.Bool.{Bool, true, false, ◌&&◌, ◌||◌}
-use mathlib.Core.List.{List, [], ◌∷◌}
-use Prim.Native.Nat.{ℕ, ◌+◌, ◌-◌, ◌<◌, ◌≤◌}
-use lib.Dec.{eqb}
-use lib.ListN.{length, get_or, take, drop}
-use borrow.Author.Tests.{ne_eqb}
-use Rattle.lexical.specs.Text.{byte, bytes, first, run}
-use Rattle.lexical.specs.Byte.{isLetter, isTagNameByte, isWhitespace}
+use Rattle.std.proofs.Common.{◌≡◌, refl, sym, ◌∙◌, ap, Bool, true, false, List, [], ◌∷◌, ℕ, ◌+◌, eqb, length, take, drop, eqb-true}
+use Rattle.std.proofs.lemmas.Bool.{and_parts}
+use Rattle.std.proofs.Math.Bool.{and-true, or-false}
+use lib.Pointwise.{pointwise}
+use denote.Ref.{Bor}
+use Rattle.std.specs.Prelude.{Option, Some, None, MatchOption}
+use Rattle.std.specs.Option.{unwrap_or}
+use Rattle.lexical.specs.Text.{byte, bytes, first}
+use Rattle.lexical.specs.Byte.{isLetter}
 use Rattle.lexical.specs.Name.{isDisallowedName}
-use Rattle.lexical.proofs.Cases.{or-no, and-yes, and-no}
-use Rattle.lexical.proofs.Suffix.{suffix-in, suffix-out}
+use Rattle.lexical.proofs.Cases.{clash}
 use Rattle.lexical.proofs.Members.{disallowed-first}
 use Rattle.rules.specs.Search.{begins}
-use Rattle.rules.specs.Block.{nameOf}
-use Rattle.rules.specs.Filter.{endsTagName, disallowedName, isDisallowed}
-use Rattle.rules.proofs.NameLaws.{name-cut, after-cut, no-name}
+use Rattle.rules.specs.Filter.{disallowedName, isDisallowed}
+use Rattle.rules.proofs.NameLaws.{no-name}
 
--- ---- what follows a name, at an index
-module _ (s : List ℕ) (i : ℕ) where
-  pub ends-out : length s ≤ i → endsTagName (drop i s) ≡ false
-  ends-out h = rw (suffix-out s i h)
+-- ---- std's word for what a text begins with
+abbrev fronted : List ℕ → List ℕ → Bool
+fronted p s = pointwise eqb (take (length p) s) p
 
-  module _ (h : i < length s) where
-    -- no `/`
-    pub ends-other : (get_or s i 0 ≡ byte "/" → ⊥) → endsTagName (drop i s) ≡ (isWhitespace (get_or s i 0) || eqb (get_or s i 0) (byte ">"))
-    ends-other n =
-        rw (suffix-in s i h, ne_eqb (get_or s i 0) (byte "/") n)
-        (ap (λ b. isWhitespace (get_or s i 0) || b) (or-no (eqb (get_or s i 0) (byte ">") && true) ∙ and-yes (eqb (get_or s i 0) (byte ">"))))
+as-begins : (p s : List ℕ) → fronted p s ≡ begins p s
+as-begins [] s = refl
+as-begins (x ∷ p) [] = refl
+as-begins (x ∷ p) (y ∷ s) = rw (as-begins p s) refl
 
-    module _ (e : get_or s i 0 ≡ byte "/") where
-      -- `/` at the end
-      pub ends-last : length s ≤ i + 1 → endsTagName (drop i s) ≡ false
-      ends-last l = rw (suffix-in s i h, e, suffix-out s (i + 1) l)
-
-      -- `/` and another byte
-      pub ends-slash : i + 1 < length s → endsTagName (drop i s) ≡ eqb (get_or s (i + 1) 0) (byte ">")
-      ends-slash l = rw (suffix-in s i h, e, suffix-in s (i + 1) l) (and-yes (eqb (get_or s (i + 1) 0) (byte ">")))
-
--- ---- a name that ends at an index
-module _ (s : List ℕ) (at end : ℕ) (ends : end ≡ at + run isTagNameByte (drop at s)) where
-  abbrev isOne : Bool
-  isOne = isDisallowedName (nameOf (drop at s))
-
-  by-what-follows : (b : Bool) → endsTagName (drop end s) ≡ b → disallowedName (drop at s) ≡ (isOne && b)
-  by-what-follows b h = ap (λ t. isOne && t) (ap endsTagName (sym (after-cut s at end ends)) ∙ h)
-
-  pub name-unfollowed : endsTagName (drop end s) ≡ false → disallowedName (drop at s) ≡ false
-  name-unfollowed h = by-what-follows false h ∙ and-no isOne
-
-  pub name-followed : endsTagName (drop end s) ≡ true → disallowedName (drop at s) ≡ isDisallowedName (take (end - at) (drop at s))
-  name-followed h = by-what-follows true h ∙ and-yes isOne ∙ ap isDisallowedName (sym (name-cut s at end ends))
+-- what is left behind it, or not
+abbrev pub Stripped : List ℕ → List ℕ → Option (Bor (List ℕ)) → Type 0
+Stripped p s r = MatchOption r (fronted p s ≡ false) (λ x. (fronted p s ≡ true) × (x.now ≡ drop (length p) s) × (length x.now + length p ≡ length s))
 
 -- ---- a tag
 -- no letter, no name
 nameless : (s : List ℕ) → isLetter (first s) ≡ false → disallowedName s ≡ false
 nameless s h = rw (no-name isDisallowedName disallowed-first s h)
 
-module _ (s : List ℕ) (i : ℕ) where
-  pub tag-out : length s ≤ i → isDisallowed (drop i s) ≡ false
-  unfolding isDisallowed
-  tag-out h = rw (suffix-out s i h)
+pub no-tag : (s : List ℕ) → fronted (bytes "<") s ≡ false → isDisallowed s ≡ false
+unfolding isDisallowed
+no-tag [] h = refl
+no-tag (x ∷ s) h = let e = sym (and-true (eqb x (byte "<"))) ∙ h in rw e
 
-  module _ (h : i < length s) where
-    -- another byte
-    pub tag-other : (get_or s i 0 ≡ byte "<" → ⊥) → isDisallowed (drop i s) ≡ false
-    unfolding isDisallowed
-    tag-other n = rw (suffix-in s i h, ne_eqb (get_or s i 0) (byte "<") n)
+slashed : (s : List ℕ) → begins (bytes "/") s ≡ true → isDisallowed (byte "<" ∷ s) ≡ disallowedName (drop 1 s)
+unfolding isDisallowed
+slashed [] h = clash false h refl
+slashed (y ∷ s) h = let e = eqb-true y (byte "/") (and_parts (eqb y (byte "/")) true h).0 in rw (e, nameless (byte "/" ∷ s) refl)
 
-    module _ (e : get_or s i 0 ≡ byte "<") where
-      -- `<` at the end
-      pub tag-last : length s ≤ i + 1 → isDisallowed (drop i s) ≡ false
-      unfolding isDisallowed
-      tag-last l = rw (suffix-in s i h, e, suffix-out s (i + 1) l, nameless [] refl)
+unslashed : (s : List ℕ) → begins (bytes "/") s ≡ false → isDisallowed (byte "<" ∷ s) ≡ disallowedName s
+unfolding isDisallowed
+unslashed s h = rw h (or-false (disallowedName s))
 
-      module _ (l : i + 1 < length s) where
-        pub tag-closing : get_or s (i + 1) 0 ≡ byte "/" → isDisallowed (drop i s) ≡ disallowedName (drop (i + 1 + 1) s)
-        unfolding isDisallowed
-        tag-closing q = rw (suffix-in s i h, e, suffix-in s (i + 1) l, q, nameless (byte "/" ∷ drop (i + 1 + 1) s) refl)
+-- behind `<`, and behind `/` where that follows
+behind : (s : List ℕ) (t : Bor (List ℕ)) (r : Option (Bor (List ℕ))) → t.now ≡ s → Stripped (bytes "/") t.now r → isDisallowed (byte "<" ∷ s) ≡ disallowedName (unwrap_or r t).now
+behind s t None e h =
+    let none = ap (begins (bytes "/")) (sym e) ∙ sym (as-begins (bytes "/") t.now) ∙ h in
+    unslashed s none ∙ ap disallowedName (sym e)
+behind s t (Some u) e h =
+    let some = ap (begins (bytes "/")) (sym e) ∙ sym (as-begins (bytes "/") t.now) ∙ h.0 in
+    slashed s some ∙ ap disallowedName (sym (h.1 ∙ ap (drop 1) e))
 
-        pub tag-opening : (get_or s (i + 1) 0 ≡ byte "/" → ⊥) → isDisallowed (drop i s) ≡ disallowedName (drop (i + 1) s)
-        unfolding isDisallowed
-        tag-opening n =
-            let z = ne_eqb (get_or s (i + 1) 0) (byte "/") n in
-            let t : begins (bytes "/") (drop (i + 1) s) ≡ false = rw (suffix-in s (i + 1) l, z) in
-            rw (suffix-in s i h, e, t) (or-no (disallowedName (drop (i + 1) s)))
+pub tag-is : (s : List ℕ) (t : Bor (List ℕ)) (r : Option (Bor (List ℕ))) → fronted (bytes "<") s ≡ true → t.now ≡ drop 1 s → Stripped (bytes "/") t.now r
+    → isDisallowed s ≡ disallowedName (unwrap_or r t).now
+tag-is [] t r h e k = clash false h refl
+tag-is (x ∷ s) t r h e k = ap (λ y. isDisallowed (y ∷ s)) (eqb-true x (byte "<") (and_parts (eqb x (byte "<")) true h).0) ∙ behind s t r e k

@@ -1,4 +1,4 @@
-// GitHub's tag filter over a bulletin: 02, Ask 4.
+// GitHub's tag filter over a bulletin.
 #![tactic(auto)]
 
 pub mod filter;

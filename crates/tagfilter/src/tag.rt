@@ -1,64 +1,44 @@
 // The tags that the filter replaces: Disallowed Raw HTML, 6.11 of the GitHub Flavored Markdown Spec.
-ghost use Rattle.std.specs.Prelude.{◌≡◌, drop};
+ghost use Rattle.std.specs.Prelude.{◌≡◌};
 ghost use Rattle.rules.specs.Filter.{endsTagName, disallowedName, isDisallowed};
 
 use lexical::byte::{is_whitespace, name_end};
 use lexical::constant::is_disallowed_name;
-use lexical::slice::from_indices;
 
-// Whether what must follow a name stands at an index: a space, a tab, a line ending, `>` or `/>`.
-fn ends_tag_name(bytes: &[u8], index: usize) -> bool
-    ensures { result ≡ endsTagName (drop index bytes.now) }
+// Whether a text begins with what must follow a name: a space, a tab, a line ending, `>` or `/>`.
+fn ends_tag_name(text: &[u8]) -> bool
+    ensures { result ≡ endsTagName text.now }
 {
-    if index >= bytes.len() {
-        return false;
+    match text {
+        [b'/', b'>', ..] => true,
+        [byte, ..] => is_whitespace(*byte) | (*byte == b'>'),
+        [] => false,
     }
-    let b = bytes[index];
-    if b != b'/' {
-        return is_whitespace(b) | (b == b'>');
-    }
-    let next = index + 1;
-    if next >= bytes.len() {
-        return false;
-    }
-    bytes[next] == b'>'
 }
 
-// Whether one of the nine names stands at an index, with what must follow it.
+// Whether a text begins with one of the nine names, and what must follow it. It is kept out of the search for `<`, which is faster without it.
 //
 //     <xmp>
 //      ^
-fn names_disallowed(bytes: &[u8], index: usize) -> bool
-    ensures { result ≡ disallowedName (drop index bytes.now) }
+#[inline(never)]
+fn names_disallowed(text: &[u8]) -> bool
+    ensures { result ≡ disallowedName text.now }
 {
-    let end = name_end(bytes, index);
-    if !ends_tag_name(bytes, end) {
-        return false;
-    }
-    is_disallowed_name(from_indices(bytes, index, end))
+    let (name, behind) = text.split_at(name_end(text, 0));
+    ends_tag_name(behind) && is_disallowed_name(name)
 }
 
-// Whether a tag that the filter replaces begins at an index.
+// Whether a text begins with a tag that the filter replaces.
 //
 //     <xmp>
 //     ^
 //     </xmp>
 //     ^
-pub(crate) fn is_disallowed(bytes: &[u8], index: usize) -> bool
-    ensures { result ≡ isDisallowed (drop index bytes.now) }
+pub(crate) fn is_disallowed(text: &[u8]) -> bool
+    ensures { result ≡ isDisallowed text.now }
 {
-    if index >= bytes.len() {
+    let Some(tag) = text.strip_prefix(b"<") else {
         return false;
-    }
-    if bytes[index] != b'<' {
-        return false;
-    }
-    let name = index + 1;
-    if name >= bytes.len() {
-        return false;
-    }
-    if bytes[name] == b'/' {
-        return names_disallowed(bytes, name + 1);
-    }
-    names_disallowed(bytes, name)
+    };
+    names_disallowed(tag.strip_prefix(b"/").unwrap_or(tag))
 }

@@ -1,17 +1,12 @@
 -- What is known of the closers ahead, and what reading finds. Reading an opening of one of the four forms is a search for its closer from its third byte on or
 -- later, so where none lies behind its first byte, it finds none. Where it finds none, none lies behind its second byte: no closer begins in those bytes of the
 -- opening that the search leaves out. And what a text does not hold, no end of it holds.
-use mathlib.Core.Path.{◌≡◌, refl, sym, ◌∙◌, ap, subst}
-use mathlib.Core.Bool.{true, false}
-use mathlib.Core.List.{List, [], ◌∷◌, ◌++◌}
-use Prim.Native.Nat.{ℕ, zero, suc, ◌+◌}
-use native.Mathlib.Omega.{arith}
-use lib.ListN.{length, drop}
-use lib.Seq.{drop-drop}
+use Rattle.std.proofs.Common.{◌≡◌, refl, sym, ◌∙◌, ap, subst, true, false, List, [], ◌∷◌, ◌++◌, ℕ, zero, suc, ◌+◌, arith, length, drop, drop-drop}
+use Rattle.std.proofs.lemmas.Bool.{and_parts}
 use Rattle.lexical.specs.Text.{byte, bytes, first}
 use Rattle.lexical.specs.Byte.{isLetter}
 use Rattle.lexical.specs.Name.{cdataPrefix}
-use Rattle.lexical.proofs.Cases.{split, clash, excluded, and-left, and-right}
+use Rattle.lexical.proofs.Cases.{split, clash, excluded}
 use Rattle.rules.specs.Search.{choose, begins, Left, left, nothing, throughFirst}
 use Rattle.rules.specs.Inline.{lacks, prefix, carrying, keeping, rawHtml, readInline}
 use Rattle.rules.specs.declared.Rules.{Rules}
@@ -79,8 +74,8 @@ letter-first (x ∷ s) h = refl
 
 declaration-opening : (s : List ℕ) → isDeclaration s ≡ true → Opening s Declaration
 declaration-opening s h =
-    let l : isLetter (first (drop 2 s)) ≡ true = and-right (begins (bytes "<!") s) (isLetter (first (drop 2 s))) h in
-    let e : s ≡ bytes "<!" ++ drop 2 s = begins-is (bytes "<!") s (and-left (begins (bytes "<!") s) (isLetter (first (drop 2 s))) h) in
+    let l : isLetter (first (drop 2 s)) ≡ true = (and_parts (begins (bytes "<!") s) (isLetter (first (drop 2 s))) h).1 in
+    let e : s ≡ bytes "<!" ++ drop 2 s = begins-is (bytes "<!") s (and_parts (begins (bytes "<!") s) (isLetter (first (drop 2 s))) h).0 in
     let i : s ≡ bytes "<!" ++ (first (drop 2 s) ∷ drop 1 (drop 2 s)) = e ∙ ap (λ t. bytes "<!" ++ t) (letter-first (drop 2 s) l) in
     subst (λ t. Opening t Declaration) (sym i) (of-declaration (first (drop 2 s)) l (drop 1 (drop 2 s)))
 

@@ -1,16 +1,10 @@
 -- The lines of a block are passed one by one until the content of one ends at the block's stop. Each line behind the first has a line ending in front, so the
 -- place where its content ends is further on, and the stop is met at the last line of the block and at no other.
-use mathlib.Core.Path.{◌≡◌, refl, sym, ◌∙◌, ap, subst}
-use mathlib.Core.Bool.{Bool, true, false, ◌&&◌, not}
-use mathlib.Core.List.{List, [], ◌∷◌}
-use Prim.Native.Nat.{ℕ, zero, suc, ◌+◌, ◌-◌, ◌<◌, ◌≤◌}
-use native.Mathlib.Omega.{arith}
-use lib.Dec.{eqb, ltb}
-use lib.ListN.{length, drop}
-use borrow.Author.Tests.{lt-ltb, le-ltb, ltb-true, ltb-false}
+use Rattle.std.proofs.Common.{◌≡◌, refl, sym, ◌∙◌, ap, subst, Bool, true, false, ◌&&◌, not, List, [], ◌∷◌, ℕ, zero, suc, ◌+◌, ◌-◌, ◌<◌, ◌≤◌, arith, eqb, ltb, length, drop, lt-ltb, le-ltb, ltb-true, ltb-false}
+use Rattle.std.proofs.lemmas.List.{drop-drop}
+use Rattle.std.specs.Prelude.{Option, Some, None, is_some}
 use Rattle.lexical.specs.Line.{lineLength}
 use Rattle.lexical.proofs.Cases.{split, clash}
-use Rattle.lexical.proofs.Suffix.{suffix-next}
 use Rattle.lexical.proofs.Ending.{ending-out}
 use Rattle.rules.specs.Search.{choose}
 use Rattle.rules.specs.Lines.{Line, linesOf}
@@ -20,8 +14,10 @@ use Rattle.rules.specs.Withhold.{Piece, piece, inline, block, marks, linePieces}
 use Rattle.rules.specs.declared.Rules.{Rules}
 use Rattle.rules.proofs.Cut.{content-length, lineFrom, lineTo, to-within}
 use Rattle.rules.proofs.LineLaws.{contentFrom, stopFrom, stop-from, stop-is}
+use Rattle.flow.specs.Answer.{foundOf}
+use Rattle.flow.specs.declared.block.Block.{Block}
 use Rattle.runs.proofs.Covered.{extent-some}
-use Rattle.walk.specs.Remaining.{lineAt, fromLine, BlockEnd}
+use Rattle.walk.specs.Remaining.{lineAt, fromLine, BlockEndsAt}
 use Rattle.walk.proofs.FromLine.{ending-there, read-to, line-ended, line-within, linesBehind, first-numbered, led-to, next-numbered, no-lines, piecesBehind, no-more, behind-line}
 
 -- ---- what an answer says
@@ -40,10 +36,9 @@ isFound (foundBlock b) = true
 isFound noBlock = false
 isFound (refusedBlock q) = false
 
-abbrev pub isRefused : BlockAnswer → Bool
-isRefused (foundBlock b) = false
-isRefused noBlock = false
-isRefused (refusedBlock q) = true
+pub found-some : (r : Option Block) → isFound (foundOf r) ≡ is_some r
+found-some None = refl
+found-some (Some b) = refl
 
 -- ---- the lines of a block
 -- the pieces behind a block that ends at stop, of lines of which the first stands behind the index e
@@ -80,7 +75,7 @@ module _ (ρ : Rules) (text flags : List ℕ) where
       let b = ltb-true e (length text) l in
       let to = lineTo text e in
       let rest = L (lineTo text e) (n + 1) in
-      let r = sym (suffix-next flags n) in
+      let r = sym (drop-drop 1 n flags) in
       let k = next-numbered text flags e n (n + 1) r (ending-there text e h b) in
       let stop : stopFrom e (suc m) (L e n) ≡ stopFrom (lineTo text e) m (L (lineTo text e) (n + 1)) = ap (stopFrom e (suc m)) k ∙ ap (λ t. stopFrom t m (L (lineTo text e) (n + 1))) (led-to text flags e n) in
       let far : e < stopFrom e (suc m) (L e n) = omega (arith, stop, stop-from (lineTo text e) m (L (lineTo text e) (n + 1)), ending-there text e h b) in
@@ -143,27 +138,20 @@ module _ (ρ : Rules) (text flags : List ℕ) where
         let f = first-numbered text flags i n m r in
         ap (piecesBehind ρ i) f ∙ found b (ap (blockOf ρ i) (sym f) ∙ o) ∙ ap (λ t. piece i t (block b.kind b.closed) ∷ behindBlock ρ t E (L E m)) s
 
-    -- what was found says whether the line opens one; no answer is a refusal
+    -- what was found says whether the line opens one
     kind-found : isFound (blockOf ρ i (l ∷ L E m)) ≡ not (eqb k 0)
     unfolding blockOf
     kind-found = split (eqb k 0) (λ h. simp h) (λ h. simp h)
 
-    none-refused : isRefused (blockOf ρ i (l ∷ L E m)) ≡ false
-    unfolding blockOf
-    none-refused = split (eqb k 0) (λ h. simp h) (λ h. simp h)
-
   module _ (i n : ℕ) (a : BlockAnswer) (o : blockOf ρ i (linesOf (drop n flags) (drop i text)) ≡ a) where
     abbrev by-number : drop (n + 1) flags ≡ drop 1 (drop n flags)
-    by-number = sym (suffix-next flags n)
+    by-number = sym (drop-drop 1 n flags)
 
     answer-is : blockOf ρ i (lineAt text flags i n ∷ L (i + lineLength (drop i text)) (n + 1)) ≡ a
     answer-is = ap (blockOf ρ i) (sym (first-numbered text flags i n (n + 1) by-number)) ∙ o
 
     pub opens : not (eqb (kindOf ρ (lineAt text flags i n)) 0) ≡ isFound a
     opens = sym (kind-found i n (n + 1) by-number) ∙ ap isFound answer-is
-
-    pub never-refused : isRefused a ≡ false
-    never-refused = ap isRefused (sym answer-is) ∙ none-refused i n (n + 1) by-number
 
 -- ---- from line to line until the stop
 module _ (text flags : List ℕ) (stop : ℕ) where
@@ -199,7 +187,7 @@ module _ (text flags : List ℕ) (stop : ℕ) where
 
   -- all lines of a block, which begins at i, are passed
   pub block-end : (i k n e m : ℕ) → drop n flags ≡ drop 1 (drop k flags) → Passing (i + lineLength (drop i text)) n e m → (ltb e stop && ltb e (length text)) ≡ false
-      → BlockEnd text flags i k stop (record { stop = e; line = m })
+      → BlockEndsAt text flags i k stop (record { stop = e; line = m })
   block-end i k n e m r passing h =
       record {
         to = passing.to;

@@ -1,53 +1,54 @@
--- Runs of backslashes, counted back from a place: a backslash turns what is behind it, and any other byte ends the run.
-use Rattle.std.proofs.Common.{◌≡◌, ℕ, zero, suc, ◌+◌, ◌-◌, ◌<◌, ◌≤◌, Bool, true, false, not, List, [], ◌∷◌, length, get_or, take, drop, refl, sym, ap, ◌∙◌, arith, length-drop, ne_eqb}
-use Rattle.std.proofs.lemmas.List.{get_or-drop}
+-- Runs of backslashes at the end of a text, counted from its last byte back: a backslash turns what stands in front of it, and any other byte ends the run.
+use Rattle.std.proofs.Common.{◌≡◌, ℕ, suc, ◌%◌, Bool, true, false, not, eqb, List, [], ◌∷◌, ◌++◌, length, sym, refl, ap, ◌∙◌, arith, ne_eqb, eq-eqb, eqb-true}
+use Rattle.std.specs.Prelude.{reverse}
+use Rattle.std.specs.List.{take_while}
+use Rattle.std.proofs.lemmas.Bool.{eqb-false}
+use Rattle.std.proofs.lemmas.List.{reverse-append, reverse-reverse}
+use Rattle.std.proofs.lemmas.List.Sums.{take_while-cons}
 use Rattle.lexical.specs.Text.{byte}
+use Rattle.lexical.proofs.Cases.{split}
 use Rattle.rules.specs.Withhold.{oddBehind}
 use Rattle.walk.specs.Remaining.{oddAfter}
 
--- whether an odd run stands before an index, counted back to another
-abbrev pub behindFrom : List ℕ → ℕ → ℕ → Bool
-behindFrom text from i = oddAfter false (take (i - from) (drop from text))
+abbrev isBackslash : ℕ → Bool
+isBackslash b = eqb b (byte "\\")
 
--- a bit, turned where the other is set
-abbrev pub turned : Bool → Bool → Bool
-turned true b = not b
-turned false b = b
+abbrev isOdd : ℕ → Bool
+isOdd n = eqb (n % 2) 1
 
-not-turned : (odd : Bool) → turned odd false ≡ odd
-not-turned true = refl
-not-turned false = refl
+one-more : (n : ℕ) → not (isOdd n) ≡ isOdd (suc n)
+one-more n =
+    split (isOdd n) (λ h. let e = eqb-true (n % 2) 1 h in rw (h, ne_eqb (suc n % 2) 1 (λ z. omega (arith, e, z))))
+    (λ h.
+    let e = eqb-false (n % 2) 1 h in
+    let z : suc n % 2 ≡ 1 = omega (arith, e) in rw (h, eq-eqb (suc n % 2) 1 z))
 
--- one byte more
-after-one : (odd : Bool) (n : ℕ) (s : List ℕ) → n < length s → oddAfter odd (take (suc n) s) ≡ oddBehind (oddAfter odd (take n s)) (get_or s n 0)
+after-last : (odd : Bool) (s : List ℕ) (x : ℕ) → oddAfter odd (s ++ x ∷ []) ≡ oddBehind (oddAfter odd s) x
 unfolding oddAfter
-after-one odd n [] l = absurd (omega arith)
-after-one odd zero (x ∷ s) l = refl
-after-one odd (suc n) (x ∷ s) l = after-one (oddBehind odd x) n s (omega arith)
+after-last odd [] x = refl
+after-last odd (y ∷ s) x = after-last (oddBehind odd y) s x
 
-module _ (text : List ℕ) (from i : ℕ) (l : from < i) (in-text : i ≤ length text) where
-  byte-before : behindFrom text from i ≡ oddBehind (behindFrom text from (i - 1)) (get_or text (i - 1) 0)
-  byte-before =
-      let n : i - from ≡ suc (i - 1 - from) = omega arith in
-      let k : from + (i - 1 - from) ≡ i - 1 = omega arith in
-      ap (λ m. oddAfter false (take m (drop from text))) n
-      ∙ after-one false (i - 1 - from) (drop from text) (omega (arith, length-drop from text))
-      ∙ ap (oddBehind (behindFrom text from (i - 1))) (get_or-drop from text (i - 1 - from) 0 ∙ ap (λ m. get_or text m 0) k)
-
-  -- a backslash turns what is behind it
-  pub turns : (odd : Bool) → get_or text (i - 1) 0 ≡ byte "\\" → turned (not odd) (behindFrom text from (i - 1)) ≡ turned odd (behindFrom text from i)
-  turns odd e = sym (ap (turned odd) (byte-before ∙ ap (oddBehind (behindFrom text from (i - 1))) e) ∙ twice odd (behindFrom text from (i - 1)))
-    where
-      twice : (odd b : Bool) → turned odd (not b) ≡ turned (not odd) b
-      twice true true = refl
-      twice true false = refl
-      twice false b = refl
-
-  -- another byte ends the run
-  pub ends : (odd : Bool) → (get_or text (i - 1) 0 ≡ byte "\\" → ⊥) → turned odd (behindFrom text from i) ≡ odd
-  ends odd h = ap (turned odd) (byte-before ∙ rw (ne_eqb (get_or text (i - 1) 0) (byte "\\") h)) ∙ not-turned odd
-
--- at the place that it is counted back to
-pub starts : (text : List ℕ) (from i : ℕ) (odd : Bool) → i ≤ from → turned odd (behindFrom text from i) ≡ odd
+back : (s : List ℕ) → oddAfter false (reverse s) ≡ isOdd (length (take_while isBackslash s))
 unfolding oddAfter
-starts text from i odd l = let z : i - from ≡ 0 = omega arith in rw z (not-turned odd)
+back [] = refl
+back (x ∷ s) =
+    let run = take_while isBackslash s in
+    ap (oddAfter false) (reverse-append (x ∷ []) s)
+    ∙ after-last false (reverse s) x
+    ∙ ap (λ b. oddBehind b x) (back s)
+    ∙ split (isBackslash x) (λ h. rw h (one-more (length run))) (λ h. rw h refl)
+    ∙ ap (λ t. isOdd (length t)) (sym (take_while-cons isBackslash x s))
+
+ends-odd : (s : List ℕ) → oddAfter false s ≡ isOdd (length (take_while isBackslash (reverse s)))
+ends-odd s = ap (oddAfter false) (sym (reverse-reverse s)) ∙ back (reverse s)
+
+-- the run at the end of s, which the code has as t, is n backslashes long
+module _ (s t : List ℕ) (n : ℕ) (e : t ≡ s) (h : n ≡ length (take_while isBackslash (reverse t))) where
+  by-length : oddAfter false s ≡ isOdd n
+  by-length = ap (oddAfter false) (sym e) ∙ ends-odd t ∙ ap isOdd (sym h)
+
+  pub odd-run : n % 2 ≡ 1 → oddAfter false s ≡ true
+  odd-run o = by-length ∙ eq-eqb (n % 2) 1 o
+
+  pub even-run : (n % 2 ≡ 1 → ⊥) → oddAfter false s ≡ false
+  even-run o = by-length ∙ ne_eqb (n % 2) 1 o

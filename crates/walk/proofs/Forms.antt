@@ -1,30 +1,29 @@
 -- The form of an opening, test by test in the order of the code.
-use mathlib.Core.Path.{◌≡◌, refl, ◌∙◌, ap}
-use mathlib.Core.Bool.{Bool, true, false, ◌&&◌}
-use mathlib.Core.List.{List}
-use Prim.Native.Nat.{ℕ, ◌+◌, ◌<◌, ◌≤◌}
-use lib.ListN.{length, get_or, drop}
-use lib.Seq.{drop-drop}
-use Rattle.lexical.specs.Text.{bytes, first}
-use Rattle.lexical.specs.Byte.{isLetter}
-use Rattle.lexical.proofs.Suffix.{first-in, first-out}
+use Rattle.std.proofs.Common.{◌≡◌, refl, sym, ◌∙◌, Bool, true, false, List, [], ◌∷◌, ℕ, ◌-◌, arith, eqb, length, take, drop, length-drop, take_all, eqb-true, eq-eqb, ne_eqb}
+use Rattle.std.specs.List.{starts_with}
+use Rattle.lexical.specs.Text.{bytes}
+use Rattle.lexical.proofs.Cases.{split, clash}
 use Rattle.rules.specs.Search.{begins}
 use Rattle.walk.specs.Closer.{isDeclaration, formOf}
 use Rattle.walk.specs.declared.closers.Form.TheVariants.{Comment, Instruction, Declaration, Cdata, Other}
 
--- `<!` and the byte behind it, at an index of a text
-module _ (text : List ℕ) (i : ℕ) where
-  pub declaration-not : begins (bytes "<!") (drop i text) ≡ false → isDeclaration (drop i text) ≡ false
-  declaration-not h = ap (λ (b : Bool). b && isLetter (first (drop 2 (drop i text)))) h
+-- what `from_indices` gives from an index to the end
+pub rest-is : (text : List ℕ) (i : ℕ) {t : List ℕ} → t ≡ take (length text - i) (drop i text) → t ≡ drop i text
+rest-is text i e = e ∙ take_all (length text - i) (drop i text) (omega (arith, length-drop i text))
 
-  declaration-by : begins (bytes "<!") (drop i text) ≡ true → isDeclaration (drop i text) ≡ isLetter (first (drop (i + 2) text))
-  declaration-by h = ap (λ (b : Bool). b && isLetter (first (drop 2 (drop i text)))) h ∙ ap (λ s. isLetter (first s)) (drop-drop 2 i text)
+-- ---- std's word for what a text begins with
+turned : (x y : ℕ) → eqb x y ≡ eqb y x
+turned x y =
+    split (eqb x y) (λ h. h ∙ sym (eq-eqb y x (sym (eqb-true x y h))))
+    (λ h. h ∙ sym (ne_eqb y x (λ e. clash (eqb x y) (eq-eqb x y (sym e)) h)))
 
-  pub declaration-out : begins (bytes "<!") (drop i text) ≡ true → length text ≤ i + 2 → isDeclaration (drop i text) ≡ false
-  declaration-out h l = declaration-by h ∙ ap isLetter (first-out text (i + 2) l)
+as-begins : (p s : List ℕ) → starts_with eqb s p ≡ begins p s
+as-begins [] s = refl
+as-begins (x ∷ p) [] = refl
+as-begins (x ∷ p) (y ∷ s) = rw (turned x y, as-begins p s) refl
 
-  pub declaration-in : begins (bytes "<!") (drop i text) ≡ true → i + 2 < length text → isDeclaration (drop i text) ≡ isLetter (get_or text (i + 2) 0)
-  declaration-in h l = declaration-by h ∙ ap isLetter (first-in text (i + 2) l)
+pub begins-by : (p s : List ℕ) {b t : Bool} → b ≡ starts_with eqb s p → b ≡ t → begins p s ≡ t
+begins-by p s e h = sym (as-begins p s) ∙ sym e ∙ h
 
 module _ (s : List ℕ) where
   pub form-instruction : begins (bytes "<?") s ≡ true → formOf s ≡ Instruction

@@ -1,19 +1,11 @@
 -- From a line on. A line leads to the line behind it: the pieces of the lines behind a line's content are those from the next line on, since the ending that
 -- leads to a line counts only in a paragraph, and there it has no `<`.
-use mathlib.Core.Path.{◌≡◌, refl, sym, ◌∙◌, ap}
-use mathlib.Core.Bool.{Bool, true, false, not}
-use mathlib.Core.List.{List, [], ◌∷◌, ◌++◌}
-use Prim.Native.Nat.{ℕ, zero, suc, ◌+◌, ◌-◌, ◌<◌, ◌≤◌}
-use native.Mathlib.Omega.{arith}
-use lib.Dec.{eqb, ltb}
-use lib.ListN.{length, get_or, drop, length-drop}
-use lib.Seq.{drop-drop}
-use borrow.Author.Tests.{ltb-true, ltb-false}
+use Rattle.std.proofs.Common.{◌≡◌, refl, sym, ◌∙◌, ap, Bool, true, false, not, List, [], ◌∷◌, ◌++◌, ℕ, zero, suc, ◌+◌, ◌-◌, ◌<◌, ◌≤◌, arith, eqb, ltb, length, get_or, drop, length-drop, drop-drop, ltb-true, ltb-false}
+use Rattle.std.proofs.lemmas.List.{drop-drop, drop_all, drop_more}
 use Rattle.lexical.specs.Text.{byte, first, run}
 use Rattle.lexical.specs.Byte.{isLineEndingByte}
 use Rattle.lexical.specs.Line.{lineEnding, lineLength, isBlank}
 use Rattle.lexical.proofs.Cases.{split}
-use Rattle.lexical.proofs.Suffix.{suffix-in, suffix-out, suffix-next}
 use Rattle.lexical.proofs.Ending.{ending-out}
 use Rattle.lexical.proofs.Run.{run-length}
 use Rattle.rules.specs.Lines.{Line, line, cutLines, flagged, linesOf}
@@ -47,7 +39,7 @@ some-ending x s e =
 -- where it ends before the text does, a line ending stands there
 pub ending-there : (text : List ℕ) (e : ℕ) → lineLength (drop e text) ≡ 0 → e < length text → 0 < lineEnding (drop e text)
 ending-there text e h l =
-    let s = suffix-in text e l in
+    let s = drop_more text e 0 l in
     rw s (some-ending (get_or text e 0) (drop (e + 1) text) (rw s at h))
 
 -- ---- the lines behind it
@@ -127,7 +119,7 @@ module _ (ρ : Rules) where
     pub no-more : (i n : ℕ) → length text ≤ i → fromLine ρ text flags i n ≡ []
     unfolding fromLine linesOf cutLines marks linePieces isBlank run flagged
     no-more i n l =
-        rw (suffix-out text i l, flag-first (drop n flags) [] [] [])
+        rw (drop_all i text l, flag-first (drop n flags) [] [] [])
         (simp (empty-kind (get_or (drop n flags) 0 0)))
 
     -- the pieces behind a line are those from the next line on
@@ -137,9 +129,9 @@ module _ (ρ : Rules) where
         split (ltb e (length text))
         (λ l.
         let some = ending-there text e h (ltb-true e (length text) l) in
-        ap (piecesBehind e) (next-numbered text flags e n (n + 1) (sym (suffix-next flags n)) some)
+        ap (piecesBehind e) (next-numbered text flags e n (n + 1) (sym (drop-drop 1 n flags)) some)
         ∙ led e (lineFrom text e) (get_or (drop n flags) 0 0) (leadAt text flags e) (contentFrom text (lineFrom text e)) (linesBehind text flags (lineTo text e) (n + 1)) (omega (arith, lead-length text e))
-        ∙ ap (piecesBehind (lineFrom text e)) (sym (first-numbered text flags (lineFrom text e) n (n + 1) (sym (suffix-next flags n)))))
+        ∙ ap (piecesBehind (lineFrom text e)) (sym (first-numbered text flags (lineFrom text e) n (n + 1) (sym (drop-drop 1 n flags)))))
         (λ l.
         let o = ltb-false e (length text) l in
         ap (piecesBehind e) (no-lines text flags e n (ending-out text e o)) ∙ sym (no-more (lineFrom text e) n (omega arith)))

@@ -1,18 +1,13 @@
 -- The pieces of a paragraph from `<` to `<`. Bytes before the next `<` have none; what is found there is the next piece, and the pieces behind it are those from its
 -- stop on; where nothing is found, they are those from the next byte on.
-use mathlib.Core.Path.{◌≡◌, refl, sym, ◌∙◌, ap, subst}
-use mathlib.Core.Bool.{Bool, true, false, ◌&&◌, not}
-use mathlib.Core.List.{List, [], ◌∷◌, ◌++◌}
-use Prim.Native.Nat.{ℕ, zero, suc, ◌+◌, ◌-◌, ◌<◌, ◌≤◌}
-use native.Mathlib.Omega.{arith}
-use lib.Dec.{eqb}
-use lib.ListN.{length, get_or, take, drop, length-drop, take-append-drop}
-use lib.Seq.{drop-drop, length-take-le}
-use borrow.Author.Tests.{eqb-true, not-true}
+use Rattle.std.proofs.Common.{◌≡◌, refl, sym, ◌∙◌, ap, subst, Bool, true, false, ◌&&◌, not, List, [], ◌∷◌, ◌++◌, ℕ, zero, suc, ◌+◌, ◌-◌, ◌<◌, ◌≤◌, arith, eqb, length, get_or, take, drop, length-drop, take-append-drop, drop-drop, length-take-le, eqb-true}
+use Rattle.std.proofs.lemmas.List.{drop-drop, drop_all, drop_more}
+use Rattle.std.proofs.lemmas.Bool.{and_parts}
+use Rattle.std.proofs.Math.Bool.{and-false, and-true}
+use borrow.Author.Tests.{not-true}
 use Rattle.lexical.specs.Text.{byte, first, pick}
 use Rattle.lexical.specs.Name.{all}
-use Rattle.lexical.proofs.Cases.{split, clash, and-left, and-right, and-yes, and-no}
-use Rattle.lexical.proofs.Suffix.{suffix-in, suffix-out, suffix-next}
+use Rattle.lexical.proofs.Cases.{split, clash}
 use Rattle.rules.specs.Inline.{Read, takes, lacks, readInline}
 use Rattle.rules.specs.Scan.{InlineAnswer, foundInline, noInline, refusedInline, inlineAnswer, inlineAt}
 use Rattle.rules.specs.Withhold.{piece, inline, byRead, oddBehind, tried, inlinePieces}
@@ -31,7 +26,7 @@ untried-stop : (odd : Bool) (s : List ℕ) → eqb (first (drop (untried odd s) 
 unfolding untried
 untried-stop odd [] = refl
 untried-stop odd (x ∷ s) =
-    split (eqb x (byte "<") && not odd) (λ t. let z = eqb-true x (byte "<") (and-left (eqb x (byte "<")) (not odd) t) in rw (t, z) refl) (λ t. rw t (untried-stop (oddBehind odd x) s))
+    split (eqb x (byte "<") && not odd) (λ t. let z = eqb-true x (byte "<") (and_parts (eqb x (byte "<")) (not odd) t).0 in rw (t, z) refl) (λ t. rw t (untried-stop (oddBehind odd x) s))
 
 abbrev stopOf : InlineAnswer → ℕ
 stopOf (foundInline stop carry) = stop
@@ -42,11 +37,6 @@ abbrev isNone : InlineAnswer → Bool
 isNone (foundInline stop carry) = false
 isNone (noInline carry) = true
 isNone (refusedInline n carry) = false
-
-abbrev isRefused : InlineAnswer → Bool
-isRefused (foundInline stop carry) = false
-isRefused (noInline carry) = false
-isRefused (refusedInline n carry) = true
 
 module _ (ρ : Rules) where
   -- more pieces than bytes are never counted
@@ -70,7 +60,7 @@ module _ (ρ : Rules) where
   past-untried : (n i : ℕ) (odd : Bool) (x : ℕ) (s : List ℕ) → (eqb x (byte "<") && not odd) ≡ false → inlinePieces ρ (suc n) i odd (x ∷ s) ≡ inlinePieces ρ n (suc i) (oddBehind odd x) s
   unfolding inlinePieces
   past-untried n i true x s e = refl
-  past-untried n i false x s e = past-other ρ n i false x s (sym (and-yes (eqb x (byte "<"))) ∙ e)
+  past-untried n i false x s e = past-other ρ n i false x s (sym (and-true (eqb x (byte "<"))) ∙ e)
 
   -- up to the next `<` that is tried
   over-untried : (i : ℕ) (odd : Bool) (s : List ℕ) → inlinePieces ρ (length s) i odd s ≡ inlinePieces ρ (length (drop (untried odd s) s)) (i + untried odd s) false (drop (untried odd s) s)
@@ -78,7 +68,7 @@ module _ (ρ : Rules) where
   over-untried i odd [] = refl
   over-untried i odd (x ∷ s) =
       split (eqb x (byte "<") && not odd)
-      (λ h. let o : odd ≡ false = not-true odd (and-right (eqb x (byte "<")) (not odd) h) in let z : i + 0 ≡ i = omega arith in rw (h, o, z) refl)
+      (λ h. let o : odd ≡ false = not-true odd (and_parts (eqb x (byte "<")) (not odd) h).1 in let z : i + 0 ≡ i = omega arith in rw (h, o, z) refl)
       (λ h.
       let z : suc i + untried (oddBehind odd x) s ≡ i + suc (untried (oddBehind odd x) s) = omega arith in
       rw h (past-untried (length s) i odd x s h ∙ over-untried (suc i) (oddBehind odd x) s ∙ ap (λ n. inlinePieces ρ (length (drop (untried (oddBehind odd x) s) s)) n false (drop (untried (oddBehind odd x) s) s)) z))
@@ -87,7 +77,7 @@ module _ (ρ : Rules) where
     -- at the end
     pub no-pieces : (i : ℕ) → length text ≤ i → fromIndex ρ text i ≡ []
     unfolding inlinePieces
-    no-pieces i l = rw (suffix-out text i l) refl
+    no-pieces i l = rw (drop_all i text l) refl
 
     -- over bytes without `<`
     skipped : (i j : ℕ) → all noOpen (take (j - i) (drop i text)) ≡ true → i ≤ j → j ≤ length text
@@ -109,13 +99,13 @@ module _ (ρ : Rules) where
     skipped-untried i j h a b e = skipped i j h a (omega arith) ∙ either (oddAfter false (take (j - i) (drop i text)))
       where
         z : get_or text j 0 ≡ byte "<"
-        z = sym (ap first (suffix-in text j b)) ∙ e
+        z = sym (ap first (drop_more text j 0 b)) ∙ e
 
         either : (odd : Bool) → inlinePieces ρ (length (drop j text)) j odd (drop j text) ≡ fromIndex ρ text (j + pick odd 1 0)
         either true =
             let n : suc j ≡ j + 1 = omega arith in
-            ap (λ s. inlinePieces ρ (length s) j true s) (suffix-in text j b)
-            ∙ past-untried (length (drop (j + 1) text)) j true (get_or text j 0) (drop (j + 1) text) (and-no (eqb (get_or text j 0) (byte "<")))
+            ap (λ s. inlinePieces ρ (length s) j true s) (drop_more text j 0 b)
+            ∙ past-untried (length (drop (j + 1) text)) j true (get_or text j 0) (drop (j + 1) text) (and-false (eqb (get_or text j 0) (byte "<")))
             ∙ ap (λ x. inlinePieces ρ (length (drop (j + 1) text)) (suc j) (oddBehind true x) (drop (j + 1) text)) z
             ∙ ap (λ k. inlinePieces ρ (length (drop (j + 1) text)) k false (drop (j + 1) text)) n
         either false = let n : j ≡ j + 0 = omega arith in ap (fromIndex ρ text) n
@@ -135,7 +125,7 @@ module _ (ρ : Rules) where
       s = drop (i + 1) text
 
       here : drop i text ≡ x ∷ s
-      here = suffix-in text i l
+      here = drop_more text i 0 l
 
       unrolled : (r : Read) → readInline ρ 0 (drop i text) ≡ r
           → fromIndex ρ text i ≡ byRead r (λ _. inlinePieces ρ (length s) (suc i) (oddBehind false x) s) (λ t. piece i (i + (length (x ∷ s) - length t)) inline ∷ inlinePieces ρ (length s) (i + (length (x ∷ s) - length t)) false t)
@@ -179,23 +169,15 @@ module _ (ρ : Rules) where
           → Lacked ρ text i (without c (formOf (drop i text)))
       lacked-by c carry (takes t k) e h known = clash true refl (ap isNone h)
       lacked-by c carry (lacks k) e h known =
-          record { carry = k; is = e; known = subst (Known (without c (formOf (drop i text)))) (suffix-next text i) (forgone ρ c (drop i text) k known e) }
+          record { carry = k; is = e; known = subst (Known (without c (formOf (drop i text)))) (drop-drop 1 i text) (forgone ρ c (drop i text) k known e) }
 
       pub lacked : (c : Closers) (carry : ℕ) → noInline carry ≡ inlineAt ρ text i 0 → Known c (drop i text) → Lacked ρ text i (without c (formOf (drop i text)))
       unfolding inlineAt
       lacked c carry h known = lacked-by c carry (readInline ρ 0 (drop i text)) refl h known
 
-      pub none-refused : (n carry : ℕ) → refusedInline n carry ≡ inlineAt ρ text i 0 → ⊥
-      unfolding inlineAt
-      none-refused n carry h = by-read (readInline ρ 0 (drop i text)) h
-        where
-          by-read : (r : Read) → refusedInline n carry ≡ inlineAnswer (length text) r → ⊥
-          by-read (takes t k) h = clash true refl (sym (ap isRefused (sym h)))
-          by-read (lacks k) h = clash true refl (sym (ap isRefused (sym h)))
-
       -- what is not read would have been none
       pub not-read : (c : Closers) → Known c (drop i text) → isAhead c (formOf (drop i text)) ≡ false → Lacked ρ text i c
-      not-read c known h = record { carry = 0; is = unread ρ c (drop i text) known h; known = subst (Known c) (suffix-next text i) (known-drop known 1) }
+      not-read c known h = record { carry = 0; is = unread ρ c (drop i text) known h; known = subst (Known c) (drop-drop 1 i text) (known-drop known 1) }
 
 -- ---- from `<` to `<`: no piece lies between the index and the next `<` that is tried
 module _ (ρ : Rules) (text : List ℕ) (index : ℕ) where
@@ -214,10 +196,11 @@ module _ (ρ : Rules) (text : List ℕ) (index : ℕ) where
       }
 
   module _ (start : ℕ) (c : Closers) (at : AtOpening start c) (l : start < length text) where
-    pub onward : (stop : ℕ) → Took ρ text start stop → Onward ρ text index start stop c
+    pub onward : (stop : ℕ) → Took ρ text start stop → Onward ρ text index (record { piece = record { start = start; stop = stop; block = false }; closers = c })
     onward stop t =
         let e : start + (stop - start) ≡ stop = omega (arith, t.from) in
         record {
+          no-block = refl;
           is = at.same ∙ found-piece ρ text start l stop t;
           known = subst (Known c) (drop-drop (stop - start) start text ∙ ap (λ n. drop n text) e) (known-drop at.known (stop - start));
         }
@@ -233,12 +216,12 @@ module _ (text : List ℕ) (i : ℕ) (odd : Bool) where
   pub untried-on : i < length text → (eqb (get_or text i 0) (byte "<") && not odd) ≡ false
       → i + untried odd (drop i text) ≡ (i + 1) + untried (oddBehind odd (get_or text i 0)) (drop (i + 1) text)
   unfolding untried
-  untried-on l h = rw (suffix-in text i l, h) (omega arith)
+  untried-on l h = rw (drop_more text i 0 l, h) (omega arith)
 
   pub untried-here : i < length text → (eqb (get_or text i 0) (byte "<") && not odd) ≡ true → untried odd (drop i text) ≡ 0
   unfolding untried
-  untried-here l h = rw (suffix-in text i l, h) refl
+  untried-here l h = rw (drop_more text i 0 l, h) refl
 
   pub untried-over : length text ≤ i → untried odd (drop i text) ≡ 0
   unfolding untried
-  untried-over l = rw (suffix-out text i l) refl
+  untried-over l = rw (drop_all i text l) refl

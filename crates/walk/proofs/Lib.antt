@@ -1,5 +1,4 @@
 pub mod Escapes
-pub mod Begins
 pub mod Forms
 pub mod Rest
 pub mod Ahead

@@ -1,20 +1,15 @@
 -- Paragraphs line by line. A line without `<` has no pieces, and nor has the ending behind it: so the next line may as well begin a paragraph. A paragraph that
 -- is begun goes on over lines that are neither blank nor open a block, and its text is all from its first byte to the end of its last line's content.
-use mathlib.Core.Path.{◌≡◌, refl, sym, ◌∙◌, ap, subst}
-use mathlib.Core.Bool.{Bool, true, false, ◌||◌, not}
-use mathlib.Core.List.{List, [], ◌∷◌, ◌++◌, append_assoc, append-nil}
-use Prim.Native.Nat.{ℕ, suc, ◌+◌, ◌-◌, ◌<◌, ◌≤◌}
-use native.Mathlib.Omega.{arith}
-use lib.Dec.{eqb, ltb}
-use lib.ListN.{length, get_or, take, drop}
-use lib.Seq.{drop-drop}
-use borrow.Author.Tests.{eqb-true, ltb-true, ltb-false, not-true, not-false}
+use Rattle.std.proofs.Common.{◌≡◌, refl, sym, ◌∙◌, ap, subst, Bool, true, false, ◌||◌, not, List, [], ◌∷◌, ◌++◌, append_assoc, append-nil, ℕ, suc, ◌+◌, ◌-◌, ◌<◌, ◌≤◌, arith, eqb, ltb, length, get_or, take, drop, drop-drop, eqb-true, ltb-true, ltb-false}
+use Rattle.std.proofs.lemmas.List.{drop-drop}
+use Rattle.std.proofs.lemmas.Bool.{and_parts, or_parts}
+use borrow.Author.Tests.{not-true, not-false}
 use Rattle.lexical.specs.Text.{byte, first, run}
 use Rattle.lexical.specs.Byte.{isLineEndingByte, isSpaceOrTab}
 use Rattle.lexical.specs.Name.{all}
 use Rattle.lexical.specs.Line.{lineEnding, lineLength, isBlank}
-use Rattle.lexical.proofs.Cases.{split, clash, and-left, and-right, or-left, or-right}
-use Rattle.lexical.proofs.Suffix.{suffix-next, drop-take, parts}
+use Rattle.lexical.proofs.Cases.{split, clash}
+use Rattle.lexical.proofs.Suffix.{drop-take, parts}
 use Rattle.lexical.proofs.Ending.{ending-out}
 use Rattle.rules.specs.Lines.{Line}
 use Rattle.rules.specs.Block.{kindOf}
@@ -23,7 +18,7 @@ use Rattle.rules.specs.declared.Rules.{Rules}
 use Rattle.rules.proofs.Cut.{content-length, lineFrom, lineTo, to-within, blank-apart}
 use Rattle.rules.proofs.LineLaws.{contentFrom, leadAt}
 use Rattle.runs.proofs.Paragraph.{past-other}
-use Rattle.walk.specs.Remaining.{isPlain, lineAt, endsParagraph, fromLine, oddAfter, fromIndex, ParagraphEnd}
+use Rattle.walk.specs.Remaining.{isPlain, lineAt, endsParagraph, fromLine, oddAfter, fromIndex, EndsAt}
 use Rattle.walk.proofs.FromLine.{ending-there, line-ended, line-within, linesBehind, ledLine, led-to, first-numbered, next-numbered, no-lines, read-to, piecesBehind, same-kind, no-more, behind-line}
 
 -- ---- bytes without `<`
@@ -75,10 +70,10 @@ module _ (ρ : Rules) where
   unfolding all oddAfter
   skip i odd [] t h = let z : i + 0 ≡ i = omega arith in rw z refl
   skip i odd (x ∷ u) t h =
-      let e : eqb x (byte "<") ≡ false = not-true (eqb x (byte "<")) (and-left (noOpen x) (all noOpen u) h) in
+      let e : eqb x (byte "<") ≡ false = not-true (eqb x (byte "<")) (and_parts (noOpen x) (all noOpen u) h).0 in
       let z : suc i + length u ≡ i + suc (length u) = omega arith in
       past-other ρ (length (u ++ t)) i odd x (u ++ t) e
-      ∙ skip (suc i) (oddBehind odd x) u t (and-right (noOpen x) (all noOpen u) h)
+      ∙ skip (suc i) (oddBehind odd x) u t (and_parts (noOpen x) (all noOpen u) h).1
       ∙ ap (λ n. inlinePieces ρ (length t) n (oddAfter (oddBehind odd x) u) t) z
 
   -- ---- a line and the lines behind it
@@ -171,7 +166,7 @@ module _ (ρ : Rules) (text flags : List ℕ) where
   restart odd e n h =
       split (ltb e (length text))
       (λ l.
-      let k = next e n (n + 1) (sym (suffix-next flags n)) h (ltb-true e (length text) l) in
+      let k = next e n (n + 1) (sym (drop-drop 1 n flags)) h (ltb-true e (length text) l) in
       ap (both odd e) k
       ∙ begin ρ e (ledLine text flags e n) (L (lineTo text e) (n + 1)) odd (lead-closed (drop e text)) (lead-breaks (drop e text) (ending-there text e h (ltb-true e (length text) l)) odd)
       ∙ ap (piecesBehind ρ e) (sym k)
@@ -273,8 +268,8 @@ module _ (ρ : Rules) (text flags : List ℕ) where
       along-on : endsParagraph ρ (lineAt text flags from m) ≡ false → Along E n to q
       along-on h =
           let g = same ∙ h in
-          let b = or-left (isBlank (contentFrom text from)) (not (eqb (kindOf ρ following) 0)) g in
-          let z : kindOf ρ following ≡ 0 = eqb-true (kindOf ρ following) 0 (not-false (eqb (kindOf ρ following) 0) (or-right (isBlank (contentFrom text from)) (not (eqb (kindOf ρ following) 0)) g)) in
+          let b = (or_parts (isBlank (contentFrom text from)) (not (eqb (kindOf ρ following) 0)) g).0 in
+          let z : kindOf ρ following ≡ 0 = eqb-true (kindOf ρ following) 0 (not-false (eqb (kindOf ρ following) 0) (or_parts (isBlank (contentFrom text from)) (not (eqb (kindOf ρ following) 0)) g).1) in
           record {
             from = omega (arith, along.from);
             to = to-within text stop along.to;
@@ -322,9 +317,9 @@ module _ (ρ : Rules) (text flags : List ℕ) where
 
     -- it ends before a line that is none of it, or with the text
     pub ends-before : (next : ℕ) → next ≡ lineFrom text stop → stop < length text → endsParagraph ρ (lineAt text flags next m) ≡ true
-        → ParagraphEnd ρ text flags i k (record { stop = stop; line = m })
+        → EndsAt ρ text flags i k (record { stop = stop; line = m })
     ends-before next a l h =
-        let r = sym (suffix-next flags m) in
+        let r = sym (drop-drop 1 m flags) in
         let g = ap (λ t. endsParagraph ρ (lineAt text flags t m)) (sym a) ∙ h in
         record {
           from = along.from;
@@ -332,7 +327,7 @@ module _ (ρ : Rules) (text flags : List ℕ) where
           pieces = λ none b. whole none b (no-text first-end n stop m along (m + 1) r l g) (no-more-lines first-end n stop m along (m + 1) r l g);
         }
 
-    pub ends-with : length text ≤ stop → ParagraphEnd ρ text flags i k (record { stop = stop; line = m })
+    pub ends-with : length text ≤ stop → EndsAt ρ text flags i k (record { stop = stop; line = m })
     unfolding marks goesOn linePieces
     ends-with l =
         record {

@@ -1,13 +1,5 @@
 -- Places between pieces. In front of a line all pieces from it on remain; a line gives its block, or the first piece of its paragraph, or the line behind it.
-use mathlib.Core.Path.{◌≡◌, refl, sym, ◌∙◌, ap, subst}
-use mathlib.Core.Bool.{Bool, true, false}
-use mathlib.Core.List.{List, [], ◌∷◌, ◌++◌}
-use Prim.Native.Nat.{ℕ, zero, suc, ◌+◌, ◌-◌, ◌<◌}
-use native.Mathlib.Omega.{arith}
-use lib.Dec.{eqb, ltb}
-use lib.ListN.{length, take, drop}
-use lib.Seq.{drop-drop, length-take-le, take-take}
-use borrow.Author.Tests.{eqb-true, eq-eqb, ltb-true, ltb-false}
+use Rattle.std.proofs.Common.{◌≡◌, refl, sym, ◌∙◌, ap, subst, true, false, List, [], ◌∷◌, ◌++◌, ℕ, zero, suc, ◌+◌, ◌-◌, ◌<◌, arith, eqb, ltb, length, take, drop, drop-drop, length-take-le, take-take, eqb-true, eq-eqb, ltb-true, ltb-false}
 use Rattle.lexical.specs.Text.{byte, first, pick, run}
 use Rattle.lexical.specs.Byte.{isLineEndingByte, isSpaceOrTab}
 use Rattle.lexical.specs.Name.{all}
@@ -19,10 +11,11 @@ use Rattle.rules.specs.Withhold.{Piece, Which, piece, inline, inlinePieces}
 use Rattle.rules.specs.declared.Rules.{Rules}
 use Rattle.rules.proofs.Cut.{lineFrom}
 use Rattle.walk.specs.Closer.{Known, allAhead}
-use Rattle.walk.specs.Remaining.{isPlain, lineAt, fromLine, oddAfter, fromIndex, ParagraphEnd, Onward, atLine, remaining, Valid, isBlock, Leads, Same}
-use Rattle.walk.specs.declared.closers.Closers.{Closers}
+use Rattle.walk.specs.Remaining.{isPlain, lineAt, fromLine, oddAfter, fromIndex, EndsAt, Onward, atLine, remaining, Valid, isBlock, Leads, Same}
 use Rattle.walk.specs.declared.paragraph.End.{End}
+use Rattle.walk.specs.declared.paragraph.Inlined.{Inlined}
 use Rattle.walk.specs.declared.pieces.Cursor.{Cursor}
+use Rattle.walk.specs.declared.pieces.Next.{Next}
 use Rattle.walk.proofs.Ahead.{known-all}
 use Rattle.walk.proofs.FromLine.{ending-there, line-ended}
 use Rattle.walk.proofs.Paragraphs.{noOpen, plain-closed, plain-length, plain-line, blank-content}
@@ -72,12 +65,14 @@ module _ (ρ : Rules) (text flags : List ℕ) where
   -- ---- a block
   module _ (i n stop : ℕ) (w : Which) (e : End) (next : ℕ) (d : Cursor) (a : next ≡ lineFrom text e.stop) (b : d ≡ atLine next e.line) where
     pub leads-block : fromLine ρ text flags i n ≡ piece i stop w ∷ fromLine ρ text flags (lineFrom text e.stop) e.line
-        → isBlock w ≡ true → Leads ρ text flags (fromLine ρ text flags i n) i stop true d
+        → isBlock w ≡ true → Leads ρ text flags (fromLine ρ text flags i n) (record { piece = record { start = i; stop = stop; block = true }; behind = d })
     leads-block h is =
         record {
-          which = w;
-          is-block = is;
-          is = h ∙ ap (λ t. piece i stop w ∷ fromLine ρ text flags t e.line) (sym a) ∙ ap (λ ps. piece i stop w ∷ ps) (sym (ap (remaining ρ text flags) b ∙ line-remaining next e.line));
+          takes = record {
+            which = w;
+            is-block = is;
+            is = h ∙ ap (λ t. piece i stop w ∷ fromLine ρ text flags t e.line) (sym a) ∙ ap (λ ps. piece i stop w ∷ ps) (sym (ap (remaining ρ text flags) b ∙ line-remaining next e.line));
+          };
           valid = subst (Valid text) (sym b) (line-valid next e.line);
         }
 
@@ -99,7 +94,7 @@ module _ (ρ : Rules) (text flags : List ℕ) where
         })
 
     -- with `<`
-    module _ (h : first (drop o text) ≡ byte "<") (e : End) (end : ParagraphEnd ρ text flags c.next c.line e) (front : List ℕ) (f : front ≡ take (e.stop - 0) (drop 0 text)) where
+    module _ (h : first (drop o text) ≡ byte "<") (e : End) (end : EndsAt ρ text flags c.next c.line e) (front : List ℕ) (f : front ≡ take (e.stop - 0) (drop 0 text)) where
       abbrev s : List ℕ
       s = drop c.next text
 
@@ -135,19 +130,21 @@ module _ (ρ : Rules) (text flags : List ℕ) where
             ∙ ap (λ ps. ps ++ fromLine ρ text flags (lineFrom text e.stop) e.line) from-open
 
         module _ (next : ℕ) (a : next ≡ lineFrom text e.stop) where
-          pub leads-inline : (start stop : ℕ) (k : Closers) → Onward ρ front from start stop k
-              → Leads ρ text flags (fromLine ρ text flags c.next c.line) start stop false (record { index = stop; stop = e.stop; next = next; line = e.line; closers = k })
+          pub leads-inline : (p : Inlined) → Onward ρ front from p
+              → Leads ρ text flags (fromLine ρ text flags c.next c.line) (record { piece = p.piece; behind = record { index = p.piece.stop; stop = e.stop; next = next; line = e.line; closers = p.closers } })
           unfolding remaining
-          leads-inline start stop k on =
+          leads-inline p on =
               record {
-                which = inline;
-                is-block = refl;
-                is =
-                    pieces-from
-                    ∙ ap (λ ps. ps ++ fromLine ρ text flags (lineFrom text e.stop) e.line) on.is
-                    ∙ ap (λ t. piece start stop inline ∷ (fromIndex ρ t stop ++ fromLine ρ text flags (lineFrom text e.stop) e.line)) front-is
-                    ∙ ap (λ t. piece start stop inline ∷ (fromIndex ρ (take e.stop text) stop ++ fromLine ρ text flags t e.line)) (sym a);
-                valid = record { known = subst (λ t. Known k (drop stop t)) front-is on.known };
+                takes = record {
+                  which = inline;
+                  is-block = sym on.no-block;
+                  is =
+                      pieces-from
+                      ∙ ap (λ ps. ps ++ fromLine ρ text flags (lineFrom text e.stop) e.line) on.is
+                      ∙ ap (λ t. piece p.piece.start p.piece.stop inline ∷ (fromIndex ρ t p.piece.stop ++ fromLine ρ text flags (lineFrom text e.stop) e.line)) front-is
+                      ∙ ap (λ t. piece p.piece.start p.piece.stop inline ∷ (fromIndex ρ (take e.stop text) p.piece.stop ++ fromLine ρ text flags t e.line)) (sym a);
+                };
+                valid = record { known = subst (λ t. Known p.closers (drop p.piece.stop t)) front-is on.known };
               }
 
           pub paragraph-same : (d : Cursor) → d ≡ atLine next e.line → fromIndex ρ front from ≡ [] → Same ρ text flags c d
@@ -159,8 +156,8 @@ module _ (ρ : Rules) (text flags : List ℕ) where
               })
 
 -- the same pieces by another name
-pub leads-as : {ρ : Rules} {text flags : List ℕ} {ps qs : List Piece} {start stop : ℕ} {b : Bool} {c : Cursor} → ps ≡ qs → Leads ρ text flags qs start stop b c → Leads ρ text flags ps start stop b c
-leads-as e l = record { which = l.which; is-block = l.is-block; is = e ∙ l.is; valid = l.valid }
+pub leads-as : {ρ : Rules} {text flags : List ℕ} {ps qs : List Piece} {n : Next} → ps ≡ qs → Leads ρ text flags qs n → Leads ρ text flags ps n
+leads-as e l = record { takes = record { which = l.takes.which; is-block = l.takes.is-block; is = e ∙ l.takes.is }; valid = l.valid }
 
 -- ---- a place in a paragraph, or behind it
 module _ (ρ : Rules) (text flags : List ℕ) (c : Cursor) (valid : Valid text c) (front : List ℕ) (f : front ≡ take (c.stop - 0) (drop 0 text)) where
@@ -174,18 +171,20 @@ module _ (ρ : Rules) (text flags : List ℕ) (c : Cursor) (valid : Valid text c
   unfolding remaining
   remaining-is = ap (λ t. fromIndex ρ t c.index ++ fromLine ρ text flags c.next c.line) (sym inner-is)
 
-  pub leads-onward : (start stop : ℕ) (k : Closers) → Onward ρ front c.index start stop k
-      → Leads ρ text flags (remaining ρ text flags c) start stop false (record { index = stop; stop = c.stop; next = c.next; line = c.line; closers = k })
+  pub leads-onward : (p : Inlined) → Onward ρ front c.index p
+      → Leads ρ text flags (remaining ρ text flags c) (record { piece = p.piece; behind = record { index = p.piece.stop; stop = c.stop; next = c.next; line = c.line; closers = p.closers } })
   unfolding remaining
-  leads-onward start stop k on =
+  leads-onward p on =
       record {
-        which = inline;
-        is-block = refl;
-        is =
-            remaining-is
-            ∙ ap (λ ps. ps ++ fromLine ρ text flags c.next c.line) on.is
-            ∙ ap (λ t. piece start stop inline ∷ (fromIndex ρ t stop ++ fromLine ρ text flags c.next c.line)) inner-is;
-        valid = record { known = subst (λ t. Known k (drop stop t)) inner-is on.known };
+        takes = record {
+          which = inline;
+          is-block = sym on.no-block;
+          is =
+              remaining-is
+              ∙ ap (λ ps. ps ++ fromLine ρ text flags c.next c.line) on.is
+              ∙ ap (λ t. piece p.piece.start p.piece.stop inline ∷ (fromIndex ρ t p.piece.stop ++ fromLine ρ text flags c.next c.line)) inner-is;
+        };
+        valid = record { known = subst (λ t. Known p.closers (drop p.piece.stop t)) inner-is on.known };
       }
 
   pub paragraph-over : fromIndex ρ front c.index ≡ [] → remaining ρ text flags c ≡ fromLine ρ text flags c.next c.line

@@ -1,98 +1,128 @@
 -- Outputs that leave the bytes outside pieces as they are and have something in place of each piece: between two pieces the bytes are copied, and behind the last
--- piece the rest is. So each part has the bytes in front of a piece and then what comes in its place.
-use mathlib.Core.Path.{◌≡◌, sym, ◌∙◌, ap}
-use mathlib.Core.Bool.{Bool}
-use mathlib.Core.List.{List, [], ◌∷◌, ◌++◌, append_assoc}
-use Prim.Native.Nat.{ℕ, ◌+◌, ◌-◌, ◌≤◌}
-use native.Mathlib.Omega.{arith}
-use lib.ListN.{length, take, drop, length-append, length-drop}
-use lib.Seq.{length-take-le, take_all, drop-length}
-use Rattle.lexical.specs.Buffer.{Written}
-use Rattle.lexical.proofs.Stores.{written-as, then}
-use Rattle.rules.specs.Withhold.{Piece, piece, pieces}
-use Rattle.rules.specs.declared.Rules.{Rules}
-use Rattle.runs.proofs.Ordered.{Ordered}
-use Rattle.walk.specs.Remaining.{remaining, Leads}
-use Rattle.walk.specs.declared.pieces.Cursor.{Cursor}
-use Rattle.walk.proofs.Walk.{Output, Walking, from-to, walking-on, part-bound, walking-end, rest-bound, Showing, fits, showing-on, showing-end}
+-- piece the rest is. The pieces that remain stand in order, so such an output has what was made up to a place in front, and behind it what the pieces that remain
+-- make. Whatever comes in place of a piece, this is the same argument: it is given once, over any output.
+use Rattle.std.proofs.Common.{◌≡◌, refl, sym, ◌∙◌, ap, subst, List, [], ◌∷◌, ◌++◌, append_assoc, ℕ, ◌+◌, ◌-◌, ◌<◌, ◌≤◌, arith, length, take, drop, length-append, length-drop, length-take-le, take_all}
+use Rattle.lexical.specs.Buffer.{stored, Written}
+use Rattle.lexical.proofs.Stores.{stores, from-front, same, written-as, written-whole, then}
+use Rattle.rules.specs.Withhold.{Piece, piece, written}
+use Rattle.runs.proofs.Ordered.{Ordered, bounds, first-from, first-some, first-to, others, pieces-ordered}
+use Rattle.walk.specs.Remaining.{isBlock, Takes}
+use Rattle.walk.specs.declared.bulletin.Bulletin.{Bulletin}
+use Rattle.walk.specs.declared.pieces.Piece.{Piece as Taken}
+use Rattle.walk.proofs.Walk.{allPieces}
 
 -- the bytes between two indices
 abbrev pub between : List ℕ → ℕ → ℕ → List ℕ
 between text i j = take (j - i) (drop i text)
 
-pub record Replacing (text : List ℕ) : Type 0 where
-  pub ahead : ℕ → List Piece → List ℕ
-  pub in-place : Piece → List ℕ
-  pub by-piece : (i : ℕ) (p : Piece) (ps : List Piece) → Ordered i (length text) (p ∷ ps) → ahead i (p ∷ ps) ≡ between text i p.start ++ (in-place p ++ ahead p.stop ps)
-  pub by-none : (i : ℕ) → ahead i [] ≡ drop i text
-
-abbrev pub output : {text : List ℕ} → Replacing text → Output text
-output {text} r =
-    record {
-      ahead = r.ahead;
-      part = λ i p. between text i p.start ++ r.in-place p;
-      rest = λ i. drop i text;
-      by-piece = λ i p ps o. r.by-piece i p ps o ∙ sym (append_assoc (between text i p.start) (r.in-place p) (r.ahead p.stop ps));
-      by-none = r.by-none;
-      at-end = drop-length text;
-    }
-
 between-length : (text : List ℕ) (i j : ℕ) → i ≤ j → j ≤ length text → length (between text i j) ≡ j - i
 between-length text i j a b = length-take-le (j - i) (drop i text) (omega (arith, length-drop i text))
 
-module _ (ρ : Rules) (text flags : List ℕ) (r : Replacing text) where
+-- a piece as the code tells it
+abbrev pub told : Piece → Taken
+told p = record { start = p.start; stop = p.stop; block = isBlock p.which }
+
+-- what is made of a bulletin: `ahead i ps` from the index i on, where the pieces ps remain, and `in-place p` in place of the piece p
+pub record Replacing (text : List ℕ) : Type 0 where
+  pub ahead : ℕ → List Piece → List ℕ
+  pub in-place : Taken → List ℕ
+  pub by-piece : (i : ℕ) (p : Piece) (ps : List Piece) → Ordered i (length text) (p ∷ ps) → ahead i (p ∷ ps) ≡ between text i p.start ++ (in-place (told p) ++ ahead p.stop ps)
+  pub by-none : (i : ℕ) → ahead i [] ≡ drop i text
+
+module _ (b : Bulletin) (r : Replacing b.text.now) where
+  abbrev text : List ℕ
+  text = b.text.now
+
   abbrev whole : List ℕ
-  whole = r.ahead 0 (pieces ρ text flags)
+  whole = r.ahead 0 (allPieces b)
 
-  -- ---- the length
-  module _ (c : Cursor) (from size : ℕ) (walking : Walking ρ text flags (output r) c from size) where
-    module _ (start stop : ℕ) (b : Bool) (d : Cursor) (leads : Leads ρ text flags (remaining ρ text flags c) start stop b d) where
-      abbrev p : Piece
-      p = piece start stop leads.which
+  -- ---- the length: what is made up to an index is size bytes long
+  pub record Walking (ps : List Piece) (from size : ℕ) : Type 0 where
+    pub ordered : Ordered from (length text) ps
+    pub sum : size + length (r.ahead from ps) ≡ length whole
 
-      before-length : length (between text from start) ≡ start - from
-      before-length =
-          let l = from-to ρ text flags (output r) c from size walking start stop b d leads in
-          between-length text from start l.0 (omega (arith, l.1, l.2))
+  pub walking-start : {ps : List Piece} → ps ≡ allPieces b → Walking ps 0 0
+  walking-start e =
+      record { ordered = subst (Ordered 0 (length text)) (sym e) (pieces-ordered b.rules text b.flags.now); sum = let l = ap (λ qs. length (r.ahead 0 qs)) e in omega (arith, l) }
 
-      pub sizes : size + (start - from) + length (r.in-place p) ≡ size + length ((output r).part from p)
-      sizes = omega (arith, before-length, length-append (between text from start) (r.in-place p))
+  module _ {ps : List Piece} {from size : ℕ} (walking : Walking ps from size) where
+    pub within : from ≤ length text
+    within = bounds walking.ordered
 
-      pub replaced-on : (n : ℕ) → n ≡ size + (start - from) + length (r.in-place p) → Walking ρ text flags (output r) d stop n
-      replaced-on n h = walking-on ρ text flags (output r) c from size walking start stop b d leads n (h ∙ sizes)
+    -- a piece
+    module _ {p : Taken} {qs : List Piece} (takes : Takes ps p qs) where
+      first-is : Ordered from (length text) (piece p.start p.stop takes.which ∷ qs)
+      first-is = subst (Ordered from (length text)) takes.is walking.ordered
 
-      pub replaced-bound : size + (start - from) + length (r.in-place p) ≤ length whole
-      replaced-bound = omega (arith, sizes, part-bound ρ text flags (output r) c from size walking start stop b d leads)
+      pub from-to : (from ≤ p.start) × (p.start < p.stop) × (p.stop ≤ length text)
+      from-to = (first-from first-is, first-some first-is, first-to first-is)
 
-    end-size : size + (length text - from) ≡ size + length (drop from text)
-    end-size = omega (arith, length-drop from text)
+      pub parted : r.ahead from ps ≡ between text from p.start ++ (r.in-place p ++ r.ahead p.stop qs)
+      parted =
+          ap (r.ahead from) takes.is
+          ∙ r.by-piece from (piece p.start p.stop takes.which) qs first-is
+          ∙ ap (λ t. between text from p.start ++ (r.in-place (record { start = p.start; stop = p.stop; block = t }) ++ r.ahead p.stop qs)) takes.is-block
 
-    module _ (over : remaining ρ text flags c ≡ []) where
-      pub copied-end : Walking ρ text flags (output r) c (length text) (size + (length text - from))
-      copied-end = walking-end ρ text flags (output r) c from size walking over (size + (length text - from)) end-size
+      before-length : length (between text from p.start) ≡ p.start - from
+      before-length = between-length text from p.start from-to.0 (omega (arith, from-to.1, from-to.2))
 
-      pub copied-bound : size + (length text - from) ≤ length whole
-      copied-bound = omega (arith, end-size, rest-bound ρ text flags (output r) c from size walking over)
+      sizes : length (r.ahead from ps) ≡ (p.start - from) + length (r.in-place p) + length (r.ahead p.stop qs)
+      sizes =
+          omega (arith, ap length parted, before-length, length-append (between text from p.start) (r.in-place p ++ r.ahead p.stop qs), length-append (r.in-place p) (r.ahead p.stop qs))
 
-  -- ---- the bytes
-  module _ (old : List ℕ) (room : length whole ≤ length old) (out : List ℕ) (c : Cursor) (from size : ℕ) (showing : Showing ρ text flags (output r) old out c from size) where
-    -- what stands in front of the piece is copied as far as there is room, and then what comes in its place is written
-    pub replaced-shown : (start stop : ℕ) (b : Bool) (d : Cursor) (leads : Leads ρ text flags (remaining ρ text flags c) start stop b d) (mid new : List ℕ) (n : ℕ)
-        → n ≡ size + (start - from) + length (r.in-place (piece start stop leads.which))
-        → Written out size (take (length out - size) (between text from start)) mid → Written mid (size + (start - from)) (r.in-place (piece start stop leads.which)) new
-        → Showing ρ text flags (output r) old new d stop n
-    replaced-shown start stop b d leads mid new n h v w =
-        let walking = showing.walking in
-        let l = before-length c from size walking start stop b d leads in
-        let m = replaced-bound c from size walking start stop b d leads in
-        let copied = fits ρ text flags (output r) old out c from size showing room {bs = between text from start} (omega (arith, l, m)) v in
-        showing-on ρ text flags (output r) old out c from size showing new start stop b d leads n (h ∙ sizes c from size walking start stop b d leads) (then (ap (λ k. size + k) (sym l)) copied w)
+      pub walking-on : (n : ℕ) → n ≡ size + (p.start - from) + length (r.in-place p) → Walking qs p.stop n
+      walking-on n h = record { ordered = others first-is; sum = omega (arith, h, sizes, walking.sum) }
 
-    pub copied-shown : remaining ρ text flags c ≡ [] → (new : List ℕ) → Written out size (take (length out - size) (between text from (length text))) new
-        → Showing ρ text flags (output r) old new c (length text) (size + (length text - from))
-    copied-shown over new w =
-        let h = end-size c from size showing.walking in
-        let e : drop from text ≡ between text from (length text) = sym (take_all (length text - from) (drop from text) (omega (arith, length-drop from text))) in
-        let l = copied-bound c from size showing.walking over in
-        showing-end ρ text flags (output r) old out c from size showing new over (size + (length text - from)) h
-        (written-as (drop from text) e (fits ρ text flags (output r) old out c from size showing room (omega (arith, l, h, ap length e)) w))
+      pub size-bound : size + (p.start - from) + length (r.in-place p) ≤ length whole
+      size-bound = omega (arith, sizes, walking.sum)
+
+    -- behind the last piece
+    module _ (over : ps ≡ []) where
+      rest-is : r.ahead from ps ≡ drop from text
+      rest-is = ap (r.ahead from) over ∙ r.by-none from
+
+      pub size-is : size + (length text - from) ≡ length whole
+      size-is = omega (arith, ap length rest-is, length-drop from text, walking.sum)
+
+  -- ---- the bytes: they are written to the front of a buffer that has room for all
+  module _ (old : List ℕ) where
+    pub record Showing (out : List ℕ) (ps : List Piece) (from size : ℕ) : Type 0 where
+      pub walking : Walking ps from size
+      pub same-length : length out ≡ length old
+      pub bytes : stored out size (r.ahead from ps) ≡ stored old 0 whole
+
+    pub showing-start : {ps : List Piece} → ps ≡ allPieces b → Showing old ps 0 0
+    showing-start e = record { walking = walking-start e; same-length = refl; bytes = ap (λ qs. stored old 0 (r.ahead 0 qs)) e }
+
+    module _ (room : length whole ≤ length old) {out : List ℕ} {ps : List Piece} {from size : ℕ} (showing : Showing out ps from size) where
+      -- what fits is written whole
+      fits : (bs new : List ℕ) → size + length bs ≤ length whole → Written out size (take (length out - size) bs) new → Written out size bs new
+      fits bs new l w = written-whole bs (omega (arith, showing.same-length)) w
+
+      -- what stands in front of the piece is copied as far as there is room, and then what comes in its place is written
+      pub showing-on : {p : Taken} {qs : List Piece} → Takes ps p qs → {mid new : List ℕ} → Written out size (take (length out - size) (between text from p.start)) mid
+          → Written mid (size + (p.start - from)) (r.in-place p) new → (n : ℕ) → n ≡ size + (p.start - from) + length (r.in-place p) → Showing new qs p.stop n
+      showing-on {p} {qs} takes {mid} {new} v w n h =
+          let front = between text from p.start in
+          let c = r.in-place p in
+          let l = before-length showing.walking takes in
+          let copied = fits front mid (omega (arith, l, size-bound showing.walking takes)) v in
+          let both = then (ap (λ k. size + k) (sym l)) copied w in
+          record {
+            walking = walking-on showing.walking takes n h;
+            same-length = same both ∙ showing.same-length;
+            bytes =
+                ap (λ t. stored t n (r.ahead p.stop qs)) both.is
+                ∙ stores out size n (front ++ c) (r.ahead p.stop qs) (omega (arith, h, l, length-append front c))
+                ∙ ap (stored out size) (append_assoc front c (r.ahead p.stop qs) ∙ sym (parted showing.walking takes))
+                ∙ showing.bytes;
+          }
+
+      -- at the end all of it is there
+      pub shows-all : ps ≡ [] → {new : List ℕ} → Written out size (take (length out - size) (between text from (length text))) new → new ≡ written 0 whole old
+      unfolding written
+      shows-all over {new} w =
+          let e : drop from text ≡ between text from (length text) = sym (take_all (length text - from) (drop from text) (omega (arith, length-drop from text))) in
+          let l = size-is showing.walking over in
+          let rest = written-as (drop from text) e (fits (between text from (length text)) new (omega (arith, l, ap length e, length-drop from text)) w) in
+          rest.is ∙ ap (stored out size) (sym (rest-is showing.walking over)) ∙ showing.bytes ∙ from-front whole old room

@@ -1,11 +1,6 @@
 -- What inline reading leaves is the end of what there was. The machine takes bytes from the front one by one, so a run that ends well leaves a tail; and
 -- reading is that run.
-use mathlib.Core.Path.{◌≡◌, refl, sym, ◌∙◌, ap}
-use mathlib.Core.Bool.{Bool, true, false}
-use mathlib.Core.List.{List, [], ◌∷◌}
-use Prim.Native.Nat.{ℕ, suc, ◌-◌}
-use native.Mathlib.Omega.{arith}
-use lib.ListN.{length, drop, length-drop}
+use Rattle.std.proofs.Common.{◌≡◌, refl, sym, ◌∙◌, ap, Bool, true, false, List, [], ◌∷◌, ℕ, suc, ◌-◌, arith, length, drop, length-drop}
 use Rattle.rules.specs.Search.{choose}
 use Rattle.rules.specs.Inline.{Read, takes, lacks, keeping, rawHtml, readInline}
 use Rattle.rules.specs.declared.Rules.{Rules}

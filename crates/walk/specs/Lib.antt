@@ -1,2 +1,3 @@
 pub mod Closer
 pub mod Remaining
+pub mod Yields

@@ -1,6 +1,6 @@
--- The pieces that remain from a place of a bulletin on, in the order of the code. It need not be believed: of public contracts only
--- those of `at_line` and `next_piece` cite it, and the proofs show that from the first line on they are the pieces of the rules (`from-start` in proofs/Walk.antt).
-use Rattle.std.specs.Prelude.{◌≡◌, Bool, true, false, ◌&&◌, ◌||◌, not, List, [], ◌∷◌, ◌++◌, ℕ, suc, ◌+◌, ◌<◌, ◌≤◌, eqb, length, get_or, take, drop}
+-- The pieces that remain from a place of a bulletin on, in the order of the code. It need not be believed: no public contract cites it but through the pieces that
+-- are left of the iterator (specs/Yields.antt), and of a new one these are the pieces of the rules.
+use Rattle.std.specs.Prelude.{◌≡◌, Bool, true, false, ◌&&◌, ◌||◌, not, List, [], ◌∷◌, ◌++◌, ℕ, suc, ◌+◌, ◌<◌, ◌≤◌, eqb, length, get_or, take, drop, Option, Some, None, Result, Ok, Err}
 use Rattle.lexical.specs.Text.{byte, pick}
 use Rattle.lexical.specs.Line.{isInner, lineLength, isBlank}
 use Rattle.rules.specs.Inline.{takes, lacks, readInline}
@@ -12,17 +12,14 @@ use Rattle.rules.specs.declared.Rules.{Rules}
 use Rattle.rules.proofs.Cut.{lineFrom}
 use Rattle.rules.proofs.LineLaws.{contentFrom}
 use Rattle.walk.specs.Closer.{Known, allAhead}
+use Rattle.walk.specs.declared.bulletin.Bulletin.{Bulletin}
 use Rattle.walk.specs.declared.closers.Closers.{Closers}
 use Rattle.walk.specs.declared.paragraph.End.{End}
-use Rattle.walk.specs.declared.paragraph.Attempted.{Attempted}
-use Rattle.walk.specs.declared.paragraph.Attempted.TheVariants.{Found, Missing}
 use Rattle.walk.specs.declared.paragraph.Inlined.{Inlined}
-use Rattle.walk.specs.declared.paragraph.Inlined.TheVariants.{Piece as InlinePiece, End as NoInline}
+use Rattle.walk.specs.declared.pieces.Piece.{Piece as Taken}
 use Rattle.walk.specs.declared.pieces.Cursor.{Cursor}
 use Rattle.walk.specs.declared.pieces.Next.{Next}
-use Rattle.walk.specs.declared.pieces.Next.TheVariants.{Piece as NextPiece, End as NoPiece}
 use Rattle.walk.specs.declared.pieces.Turn.{Turn}
-use Rattle.walk.specs.declared.pieces.Turn.TheVariants.{Piece as TurnPiece, Line as TurnLine}
 
 -- ---- lines
 -- a byte of a line that is no `<`
@@ -41,10 +38,13 @@ unfoldable pub fromLine : Rules → List ℕ → List ℕ → ℕ → ℕ → Li
 fromLine ρ text flags i n = linePieces ρ i (marks ρ 0 false (linesOf (drop n flags) (drop i text))) (linesOf (drop n flags) (drop i text))
 
 -- a block that the line at an index opens, and the end of its last line
-pub record BlockEnd (text flags : List ℕ) (i n stop : ℕ) (e : End) : Type 0 where
+pub record BlockEndsAt (text flags : List ℕ) (i n stop : ℕ) (e : End) : Type 0 where
   pub to : e.stop ≤ length text
   pub pieces : (ρ : Rules) (b : FoundBlock) → b.stop ≡ stop → blockOf ρ i (linesOf (drop n flags) (drop i text)) ≡ foundBlock b
       → fromLine ρ text flags i n ≡ piece i stop (block b.kind b.closed) ∷ fromLine ρ text flags (lineFrom text e.stop) e.line
+
+abbrev pub BlockEnd : Bulletin → ℕ → ℕ → ℕ → End → Type 0
+BlockEnd b = BlockEndsAt b.text.now b.flags.now
 
 -- ---- paragraphs
 -- whether an odd run of backslashes stands behind u; odd: whether one stands before it
@@ -62,11 +62,14 @@ abbrev pub fromIndex : Rules → List ℕ → ℕ → List Piece
 fromIndex ρ text i = inlinePieces ρ (length (drop i text)) i false (drop i text)
 
 -- the end of a paragraph whose line stands at an index
-pub record ParagraphEnd (ρ : Rules) (text flags : List ℕ) (i n : ℕ) (e : End) : Type 0 where
+pub record EndsAt (ρ : Rules) (text flags : List ℕ) (i n : ℕ) (e : End) : Type 0 where
   pub from : i + lineLength (drop i text) ≤ e.stop
   pub to : e.stop ≤ length text
   pub pieces : kindOf ρ (lineAt text flags i n) ≡ 0 → isBlank (contentFrom text i) ≡ false
       → fromLine ρ text flags i n ≡ fromIndex ρ (take e.stop text) i ++ fromLine ρ text flags (lineFrom text e.stop) e.line
+
+abbrev pub ParagraphEnd : Bulletin → ℕ → ℕ → End → Type 0
+ParagraphEnd b = EndsAt b.rules b.text.now b.flags.now
 
 -- what is found at an index of a paragraph
 pub record Took (ρ : Rules) (text : List ℕ) (i stop : ℕ) : Type 0 where
@@ -80,18 +83,19 @@ pub record Lacked (ρ : Rules) (text : List ℕ) (i : ℕ) (c : Closers) : Type 
   pub is : readInline ρ 0 (drop i text) ≡ lacks carry
   pub known : Known c (drop (i + 1) text)
 
-abbrev pub Attempt : Rules → List ℕ → ℕ → Attempted → Type 0
-Attempt ρ text i (Found stop) = Took ρ text i stop
-Attempt ρ text i (Missing closers) = Lacked ρ text i closers
+abbrev pub Attempt : Rules → List ℕ → ℕ → Result ℕ Closers → Type 0
+Attempt ρ text i (Ok stop) = Took ρ text i stop
+Attempt ρ text i (Err closers) = Lacked ρ text i closers
 
 -- the next piece of a paragraph from an index on
-pub record Onward (ρ : Rules) (text : List ℕ) (i start stop : ℕ) (c : Closers) : Type 0 where
-  pub is : fromIndex ρ text i ≡ piece start stop inline ∷ fromIndex ρ text stop
-  pub known : Known c (drop stop text)
+pub record Onward (ρ : Rules) (text : List ℕ) (i : ℕ) (p : Inlined) : Type 0 where
+  pub no-block : p.piece.block ≡ false
+  pub is : fromIndex ρ text i ≡ piece p.piece.start p.piece.stop inline ∷ fromIndex ρ text p.piece.stop
+  pub known : Known p.closers (drop p.piece.stop text)
 
-abbrev pub NextInline : Rules → List ℕ → ℕ → Inlined → Type 0
-NextInline ρ text i (InlinePiece start stop closers) = Onward ρ text i start stop closers
-NextInline ρ text i NoInline = fromIndex ρ text i ≡ []
+abbrev pub NextInline : Rules → List ℕ → ℕ → Option Inlined → Type 0
+NextInline ρ text i (Some p) = Onward ρ text i p
+NextInline ρ text i None = fromIndex ρ text i ≡ []
 
 -- ---- places
 abbrev pub atLine : ℕ → ℕ → Cursor
@@ -99,6 +103,13 @@ atLine i n = record { index = 0; stop = 0; next = i; line = n; closers = allAhea
 
 unfoldable pub remaining : Rules → List ℕ → List ℕ → Cursor → List Piece
 remaining ρ text flags c = fromIndex ρ (take c.stop text) c.index ++ fromLine ρ text flags c.next c.line
+
+-- of a bulletin, from the line of a place on, and from the place on
+abbrev pub fromLineOf : Bulletin → Cursor → List Piece
+fromLineOf b c = fromLine b.rules b.text.now b.flags.now c.next c.line
+
+abbrev pub fromPlace : Bulletin → Cursor → List Piece
+fromPlace b = remaining b.rules b.text.now b.flags.now
 
 -- what the place remembers of closers is so in what is left of its paragraph
 pub record Valid (text : List ℕ) (c : Cursor) : Type 0 where
@@ -108,29 +119,36 @@ abbrev pub isBlock : Which → Bool
 isBlock inline = false
 isBlock (block k c) = true
 
--- a piece, b where it is a block, and the place behind it
-pub record Leads (ρ : Rules) (text flags : List ℕ) (ps : List Piece) (start stop : ℕ) (b : Bool) (c : Cursor) : Type 0 where
+-- p is the first of the pieces ps, and qs are the others
+pub record Takes (ps : List Piece) (p : Taken) (qs : List Piece) : Type 0 where
   pub which : Which
-  pub is-block : isBlock which ≡ b
-  pub is : ps ≡ piece start stop which ∷ remaining ρ text flags c
-  pub valid : Valid text c
+  pub is-block : isBlock which ≡ p.block
+  pub is : ps ≡ piece p.start p.stop which ∷ qs
+
+-- the first of the pieces ps, and the place behind it
+pub record Leads (ρ : Rules) (text flags : List ℕ) (ps : List Piece) (n : Next) : Type 0 where
+  pub takes : Takes ps n.piece (remaining ρ text flags n.behind)
+  pub valid : Valid text n.behind
+
+-- of the pieces ps
+abbrev pub Goes : Bulletin → List Piece → Option Next → Type 0
+Goes b ps (Some n) = Leads b.rules b.text.now b.flags.now ps n
+Goes b ps None = ps ≡ []
 
 -- no piece, and a later place with the same pieces
 pub record Same (ρ : Rules) (text flags : List ℕ) (c d : Cursor) : Type 0 where
   pub is : fromLine ρ text flags c.next c.line ≡ fromLine ρ text flags d.next d.line
   pub later : c.next < d.next
 
-abbrev pub TurnTo : Rules → List ℕ → List ℕ → Cursor → Turn → Type 0
-TurnTo ρ text flags c (TurnPiece start stop b d) = Leads ρ text flags (fromLine ρ text flags c.next c.line) start stop b d
-TurnTo ρ text flags c (TurnLine d) = Same ρ text flags c d
+abbrev pub TurnBy : Bulletin → Cursor → Option Taken → Cursor → Type 0
+TurnBy b c (Some p) d = Leads b.rules b.text.now b.flags.now (fromLineOf b c) (record { piece = p; behind = d })
+TurnBy b c None d = Same b.rules b.text.now b.flags.now c d
 
--- of the pieces ps
-abbrev pub Goes : Rules → List ℕ → List ℕ → List Piece → Next → Type 0
-Goes ρ text flags ps (NextPiece start stop b d) = Leads ρ text flags ps start stop b d
-Goes ρ text flags ps NoPiece = ps ≡ []
+abbrev pub TurnTo : Bulletin → Cursor → Turn → Type 0
+TurnTo b c t = TurnBy b c t.piece t.behind
 
 -- the line in front of which the place is opens a block that ends at stop
-pub record Opens (ρ : Rules) (text flags : List ℕ) (c : Cursor) (stop : ℕ) : Type 0 where
+pub record Opens (b : Bulletin) (c : Cursor) (stop : ℕ) : Type 0 where
   pub found : FoundBlock
   pub stops : found.stop ≡ stop
-  pub is : blockOf ρ c.next (linesOf (drop c.line flags) (drop c.next text)) ≡ foundBlock found
+  pub is : blockOf b.rules c.next (linesOf (drop c.line b.flags.now) (drop c.next b.text.now)) ≡ foundBlock found

@@ -1,12 +1,9 @@
 // What is known of the closers that lie ahead in a paragraph. Where a comment, an instruction, a declaration or a CDATA section found no closer, none lies ahead,
 // and a later opening of its form need not be read. That this keeps the cost linear is argued and measured, not proved (docs/DECISIONS.md, 24).
-ghost use Rattle.std.specs.Prelude.{◌≡◌, drop};
-ghost use Rattle.lexical.specs.Text.{bytes};
-ghost use Rattle.rules.specs.Search.{begins};
+ghost use Rattle.std.specs.Prelude.{◌≡◌};
 ghost use Rattle.walk.specs.Closer.{formOf, isDeclaration, isAhead, without as withoutOf, allAhead};
 
-use lexical::byte::is_letter;
-use lexical::constant::{HTML_CDATA_SIZE, cdata_letters};
+use lexical::byte::{is_letter, peek};
 
 // What an opening is, as far as closers go.
 #[derive(Clone, Copy)]
@@ -19,7 +16,7 @@ pub(crate) enum Form {
 }
 
 // For each form whether a closer may lie ahead.
-#[derive(Clone, Copy)]
+#[derive(Clone, Copy, PartialEq, Eq)]
 pub struct Closers {
     comment: bool,
     instruction: bool,
@@ -27,112 +24,82 @@ pub struct Closers {
     cdata: bool,
 }
 
-// Whether the text at an index begins with a word.
-fn begins_with(text: &[u8], index: usize, word: &[u8]) -> bool
-    ensures { result ≡ begins word.now (drop index text.now) }
+// Whether a text begins with `<!` and a letter.
+fn is_declaration(text: &[u8]) -> bool
+    ensures { result ≡ isDeclaration text.now }
 {
-    let mut size = 0;
-    while size < word.len() {
-        if index >= text.len() {
-            return false;
+    text.starts_with(b"<!") && peek(text, 2).is_some_and(is_letter)
+}
+
+impl Form {
+    // The form of the opening that a text begins with.
+    pub(crate) fn of(text: &[u8]) -> Form
+        ensures { result ≡ formOf text.now }
+    {
+        if text.starts_with(b"<?") {
+            return Form::Instruction;
         }
-        if size >= text.len() - index {
-            return false;
+        if text.starts_with(b"<!--") {
+            return Form::Comment;
         }
-        if text[index + size] != word[size] {
-            return false;
+        if text.starts_with(b"<![CDATA[") {
+            return Form::Cdata;
         }
-        size += 1;
-    }
-    true
-}
-
-// Whether `<!` and a letter stand at an index.
-fn is_declaration(text: &[u8], index: usize) -> bool
-    ensures { result ≡ isDeclaration (drop index text.now) }
-{
-    if !begins_with(text, index, b"<!") {
-        return false;
-    }
-    if index + 2 >= text.len() {
-        return false;
-    }
-    is_letter(text[index + 2])
-}
-
-// Whether `<![CDATA[` stands at an index.
-fn is_cdata(text: &[u8], index: usize) -> bool
-    ensures { result ≡ begins (bytes "<![CDATA[") (drop index text.now) }
-{
-    if !begins_with(text, index, b"<![") {
-        return false;
-    }
-    cdata_letters(text, index + 3, 0) == HTML_CDATA_SIZE
-}
-
-// The form of the opening at an index.
-pub(crate) fn form_at(text: &[u8], index: usize) -> Form
-    ensures { result ≡ formOf (drop index text.now) }
-{
-    if begins_with(text, index, b"<?") {
-        return Form::Instruction;
-    }
-    if begins_with(text, index, b"<!--") {
-        return Form::Comment;
-    }
-    if is_cdata(text, index) {
-        return Form::Cdata;
-    }
-    if is_declaration(text, index) {
-        return Form::Declaration;
-    }
-    Form::Other
-}
-
-// Whether a closer of the form may lie ahead.
-pub(crate) fn is_ahead(closers: Closers, form: Form) -> bool
-    ensures { result ≡ isAhead closers form }
-{
-    match form {
-        Form::Comment => closers.comment,
-        Form::Instruction => closers.instruction,
-        Form::Declaration => closers.declaration,
-        Form::Cdata => closers.cdata,
-        Form::Other => true,
+        if is_declaration(text) {
+            return Form::Declaration;
+        }
+        Form::Other
     }
 }
 
-// No closer of the form lies ahead.
-pub(crate) fn without(closers: Closers, form: Form) -> Closers
-    ensures { result ≡ withoutOf closers form }
-{
-    let mut left = closers;
-    match form {
-        Form::Comment => {
-            left.comment = false;
+impl Closers {
+    // In front of a paragraph: any closer may lie ahead.
+    pub(crate) fn all() -> Closers
+        ensures { result ≡ allAhead }
+    {
+        Closers {
+            comment: true,
+            instruction: true,
+            declaration: true,
+            cdata: true,
         }
-        Form::Instruction => {
-            left.instruction = false;
-        }
-        Form::Declaration => {
-            left.declaration = false;
-        }
-        Form::Cdata => {
-            left.cdata = false;
-        }
-        Form::Other => {}
     }
-    left
-}
 
-// In front of a paragraph: any closer may lie ahead.
-pub(crate) fn all_ahead() -> Closers
-    ensures { result ≡ allAhead }
-{
-    Closers {
-        comment: true,
-        instruction: true,
-        declaration: true,
-        cdata: true,
+    // Whether a closer of the form may lie ahead.
+    pub(crate) fn is_ahead(self, form: Form) -> bool
+        ensures { result ≡ isAhead self form }
+    {
+        match form {
+            Form::Comment => self.comment,
+            Form::Instruction => self.instruction,
+            Form::Declaration => self.declaration,
+            Form::Cdata => self.cdata,
+            Form::Other => true,
+        }
+    }
+
+    // No closer of the form lies ahead.
+    pub(crate) fn without(self, form: Form) -> Closers
+        ensures { result ≡ withoutOf self form }
+    {
+        match form {
+            Form::Comment => Closers {
+                comment: false,
+                ..self
+            },
+            Form::Instruction => Closers {
+                instruction: false,
+                ..self
+            },
+            Form::Declaration => Closers {
+                declaration: false,
+                ..self
+            },
+            Form::Cdata => Closers {
+                cdata: false,
+                ..self
+            },
+            Form::Other => self,
+        }
     }
 }

@@ -1,10 +1,7 @@
-use Prim.Native.Nat.{◌-◌}
-use lib.ListN.{length}
-use Rattle.screen.proofs.Withholding.{LengthUpTo}
+use Rattle.walk.specs.Yields.{left}
+use Rattle.walk.proofs.Replacing.{Walking}
+use Rattle.screen.proofs.Withholding.{withholding}
 use Rattle.screen.proofs.withhold.shown_length.Given as goal
 
-abbrev pub invariant-loop-from : goal.invariant-loop-from
-invariant-loop-from l = LengthUpTo l.rules l.bulletin l.flags l.cursor l.from l.size
-
-abbrev pub decreases-loop-from : goal.decreases-loop-from
-decreases-loop-from l = length l.bulletin - l.from
+abbrev pub invariant-loop-piece : goal.invariant-loop-piece
+invariant-loop-piece l = Walking l.bulletin (withholding l.bulletin.text.now) (left l.piece-iterator) l.from l.size

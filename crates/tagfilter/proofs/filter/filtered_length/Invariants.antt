@@ -1,12 +1,9 @@
 -- From piece to piece, by the law of the walk: the bytes before each piece and what comes in its place are counted, and then the rest. The sum is within eight
 -- fifths of the bulletin, so that none wraps.
-use Prim.Native.Nat.{◌-◌}
-use lib.ListN.{length}
-use Rattle.tagfilter.proofs.Filtering.{LengthUpTo}
+use Rattle.walk.specs.Yields.{left}
+use Rattle.walk.proofs.Replacing.{Walking}
+use Rattle.tagfilter.proofs.Filtering.{filtering}
 use Rattle.tagfilter.proofs.filter.filtered_length.Given as goal
 
-abbrev pub invariant-loop-from : goal.invariant-loop-from
-invariant-loop-from l = LengthUpTo l.rules l.bulletin l.flags l.cursor l.from l.size
-
-abbrev pub decreases-loop-from : goal.decreases-loop-from
-decreases-loop-from l = length l.bulletin - l.from
+abbrev pub invariant-loop-piece : goal.invariant-loop-piece
+invariant-loop-piece l = Walking l.bulletin (filtering l.bulletin.text.now) (left l.piece-iterator) l.from l.size

@@ -1,11 +1,8 @@
 -- From piece to piece, by the law of the walk: the bytes before each piece are copied, what comes in its place is written, and then the rest is copied.
-use Prim.Native.Nat.{◌-◌}
-use lib.ListN.{length}
-use Rattle.tagfilter.proofs.Filtering.{ShownUpTo}
+use Rattle.walk.specs.Yields.{left}
+use Rattle.walk.proofs.Replacing.{Showing}
+use Rattle.tagfilter.proofs.Filtering.{filtering}
 use Rattle.tagfilter.proofs.filter.show.Given as goal
 
-abbrev pub invariant-loop-from : goal.invariant-loop-from
-invariant-loop-from l = ShownUpTo l.rules l.bulletin l.flags l.initial.out l.out l.cursor l.from l.size
-
-abbrev pub decreases-loop-from : goal.decreases-loop-from
-decreases-loop-from l = length l.bulletin - l.from
+abbrev pub invariant-loop-piece : goal.invariant-loop-piece
+invariant-loop-piece l = Showing l.bulletin (filtering l.bulletin.text.now) l.initial.out l.out (left l.piece-iterator) l.from l.size

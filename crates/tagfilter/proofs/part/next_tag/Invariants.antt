@@ -1,5 +1,5 @@
 -- Up to each `<` of a line, and over a `<` that begins no tag, all bytes stay; so they do up to the first tag, or the stop.
-use Prim.Native.Nat.{◌-◌}
+use Rattle.std.proofs.Common.{◌-◌}
 use Rattle.tagfilter.specs.Part.{Passed}
 use Rattle.tagfilter.proofs.part.next_tag.Given as goal
 

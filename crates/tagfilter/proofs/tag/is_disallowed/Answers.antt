@@ -1,19 +1,11 @@
--- Each return is one outcome of the tests on the first two bytes.
-use mathlib.Core.Path.{sym, ◌∙◌}
-use Rattle.tagfilter.proofs.Tags.{tag-out, tag-other, tag-last, tag-closing, tag-opening}
+use Rattle.std.proofs.Common.{sym, ap, ◌∙◌}
+use Rattle.rules.specs.Filter.{disallowedName}
+use Rattle.tagfilter.proofs.Tags.{no-tag, tag-is}
 use Rattle.tagfilter.proofs.tag.is_disallowed.Goals as goal
 
-pub returns-then-index-bytes : goal.returns-then-index-bytes
-returns-then-index-bytes c = let a = c.args in sym (tag-out a.bytes.now a.index c.if-index-bytes.true)
-
-pub returns-then-bytes-index-ne60 : goal.returns-then-bytes-index-ne60
-returns-then-bytes-index-ne60 c = let a = c.args in sym (tag-other a.bytes.now a.index c.if-index-bytes.false c.if-bytes-index-ne60.true)
-
-pub returns-then-name-bytes : goal.returns-then-name-bytes
-returns-then-name-bytes c = let a = c.args in sym (tag-last a.bytes.now a.index c.if-index-bytes.false c.if-bytes-index-ne60.false c.if-name-bytes.true)
-
-pub returns-then-bytes-name-eq47 : goal.returns-then-bytes-name-eq47
-returns-then-bytes-name-eq47 c = let a = c.args in c.names_disallowed.ensures ∙ sym (tag-closing a.bytes.now a.index c.if-index-bytes.false c.if-bytes-index-ne60.false c.if-name-bytes.false c.if-bytes-name-eq47.true)
+pub returns-in_default : goal.returns-in_default
+returns-in_default c = sym (no-tag c.args.text.now c.in_default.ensures.cases)
 
 pub returns : goal.returns
-returns c = let a = c.args in c.names_disallowed-2.ensures ∙ sym (tag-opening a.bytes.now a.index c.if-index-bytes.false c.if-bytes-index-ne60.false c.if-name-bytes.false c.if-bytes-name-eq47.false)
+returns c = let h = c.in-Some.ensures.cases in
+    c.names_disallowed.ensures ∙ ap (λ t. disallowedName t.now) c.unwrap_or.ensures ∙ sym (tag-is c.args.text.now c.in-Some.tag c.strip_prefix-2.result h.0 h.1 c.strip_prefix-2.ensures.cases)

@@ -1,5 +1,4 @@
-use Prim.Native.Nat.{◌-◌}
-use lib.ListN.{length, drop}
+use Rattle.std.proofs.Common.{◌-◌, length, drop}
 use Rattle.walk.specs.Closer.{Known}
 use Rattle.walk.proofs.InlineSteps.{AtOpening}
 use Rattle.walk.proofs.paragraph.next_inline.Given as goal

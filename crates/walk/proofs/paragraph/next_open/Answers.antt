@@ -1,4 +1,4 @@
-use Rattle.std.proofs.Common.{sym, ◌∙◌, arith}
+use Rattle.std.proofs.Common.{false, sym, ◌∙◌, arith}
 use Rattle.walk.proofs.InlineSteps.{untried-on, untried-here, untried-over}
 use Rattle.walk.proofs.paragraph.next_open.Goals as goal
 
@@ -9,4 +9,5 @@ pub loop-i-preserved : goal.loop-i-preserved
 loop-i-preserved c = sym (untried-on c.args.text.now c.loop-i.i c.loop-i.odd c.loop-i-test.true c.if-byte-odd.false) ∙ c.loop-i.invariant
 
 pub returns : goal.returns
-returns c = omega (arith, c.loop-i.invariant, untried-over c.args.text.now c.loop-i.i c.loop-i.odd c.loop-i-test.false)
+returns c = let a = c.args in let at = c.loop-i in
+    grind (arith, at.invariant, at.auto.i, at.auto.i-end, c.max.ensures, untried-over a.text.now at.i at.odd c.loop-i-test.false, untried-over a.text.now a.index false)
