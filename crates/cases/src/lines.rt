@@ -1,6 +1,6 @@
 // Cases of a line.
 use crate::case::Case;
-use lexical::constant::{NO_NAME, block_place, raw_place};
+use lexical::constant::{block_place, raw_place};
 use lexical::event::Point;
 use lexical::line::is_blank;
 use std::io;
@@ -8,11 +8,9 @@ use std::io::Write;
 
 // `block PLACE`, `raw PLACE` or `none`: the list of names that has it, and its place there.
 fn show_place(out: &mut impl Write, name: &[u8]) -> io::Result<()> {
-    let block = block_place(name);
-    let raw = raw_place(name);
-    if block != NO_NAME {
+    if let Some(block) = block_place(name) {
         write!(out, "block {block}")
-    } else if raw != NO_NAME {
+    } else if let Some(raw) = raw_place(name) {
         write!(out, "raw {raw}")
     } else {
         write!(out, "none")

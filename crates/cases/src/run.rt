@@ -33,8 +33,8 @@
 //     I    the inline trace into a buffer of that room (traces.rt)
 //     B    the block trace likewise (traces.rt)
 //     e    the record of a trace whose number is the index (traces.rt)
-//     x    a narrow trace, taken wide into a buffer of that room (conversions.rt)
-//     X    a wide trace, taken narrow likewise (conversions.rt)
+//     x    a narrow trace, taken wide into a buffer of that room (traces.rt)
+//     X    a wide trace, taken narrow likewise (traces.rt)
 //     s    the inline scan, its trace, and whether that comes back from narrow (recorded.rt)
 //     l    the block scan likewise (recorded.rt)
 //     S, L the same; the text is a length of three bytes and a byte, which comes again and again (recorded.rt)
@@ -43,7 +43,7 @@
 // a function in the file of its topic.
 use crate::case::Case;
 use crate::scans::Part;
-use crate::{conversions, lines, readers, recorded, scans, screens, traces};
+use crate::{lines, readers, recorded, scans, screens, traces};
 use rules::{crate_rules, standard_rules};
 use std::alloc::Global;
 use std::io;
@@ -58,27 +58,27 @@ fn unknown(out: &mut impl Write) -> io::Result<()> {
 fn answer(alloc: Global, out: &mut impl Write, letter: u8, case: &Case) -> io::Result<()> {
     match letter {
         b'n' => lines::line(out, case),
-        b'i' => scans::inline(out, case),
-        b'b' => scans::block(out, case, Part::Stop),
-        b'N' => scans::block(out, case, Part::Name),
-        b'C' => scans::block(out, case, Part::Closer),
-        b'j' => scans::standard_inline(out, case),
-        b'd' => scans::standard_block(out, case, Part::Stop),
-        b'c' => scans::standard_block(out, case, Part::Closer),
+        b'i' => scans::inline(out, case, crate_rules()),
+        b'b' => scans::block(out, case, crate_rules(), Part::Stop),
+        b'N' => scans::block(out, case, crate_rules(), Part::Name),
+        b'C' => scans::block(out, case, crate_rules(), Part::Closer),
+        b'j' => scans::inline(out, case, standard_rules()),
+        b'd' => scans::block(out, case, standard_rules(), Part::Stop),
+        b'c' => scans::block(out, case, standard_rules(), Part::Closer),
         b'r' => readers::turn(out, case),
         b'p' => readers::pieces(out, case),
         b't' => readers::run(out, case, crate_rules(), case.digit()),
         b'T' => readers::run(out, case, standard_rules(), 0),
         b'f' => readers::closes(out, case, crate_rules()),
         b'F' => readers::closes(out, case, standard_rules()),
-        b'w' => screens::withheld(alloc, out, case),
-        b'W' => screens::standard_withheld(alloc, out, case),
+        b'w' => screens::withheld(alloc, out, case, crate_rules()),
+        b'W' => screens::withheld(alloc, out, case, standard_rules()),
         b'g' => screens::filtered(alloc, out, case),
-        b'I' => traces::inline(alloc, out, case),
-        b'B' => traces::block(alloc, out, case),
+        b'I' => traces::written(alloc, out, case, traces::inline),
+        b'B' => traces::written(alloc, out, case, traces::block),
         b'e' => traces::record(out, case),
-        b'x' => conversions::widened(alloc, out, case),
-        b'X' => conversions::narrowed(alloc, out, case),
+        b'x' => traces::written(alloc, out, case, traces::widened),
+        b'X' => traces::written(alloc, out, case, traces::narrowed),
         b's' | b'S' => recorded::inline(alloc, out, case),
         b'l' | b'L' => recorded::block(alloc, out, case),
         _ => unknown(out),

@@ -1,19 +1,36 @@
 // Cases of both scans.
 use crate::case::Case;
 use crate::show::yes_or_no;
-use flow::html_flow::kind_number;
-use flow::scan::{Block, Found, block_scan, standard_block_scan};
-use html::scan::{inline_scan, standard_inline_scan};
+use flow::block::Block;
+use flow::scan::block_scan;
+use html::scan::inline_scan;
 use html::tokenizer::Inline;
+use rules::Rules;
+use rules::refusal::Refusal;
 use std::io;
 use std::io::Write;
 
-// `found STOP CARRY`, `none CARRY` or `refused NUMBER CARRY`.
-pub fn show_inline(out: &mut impl Write, answer: Inline) -> io::Result<()> {
+// The place of what has no name.
+const NO_NAME: u8 = 255;
+
+// `found STOP CARRY` or `none CARRY`.
+pub fn show_inline(out: &mut impl Write, inline: Inline) -> io::Result<()> {
+    let carry = inline.carry;
+    match inline.stop {
+        Some(stop) => write!(out, "found {stop} {carry}"),
+        None => write!(out, "none {carry}"),
+    }
+}
+
+// The same, or `refused NUMBER CARRY`, the carry as passed in.
+pub fn show_scanned(
+    out: &mut impl Write,
+    answer: Result<Inline, Refusal>,
+    carry: u8,
+) -> io::Result<()> {
     match answer {
-        Inline::Found { stop, carry } => write!(out, "found {stop} {carry}"),
-        Inline::Missing { carry } => write!(out, "none {carry}"),
-        Inline::Refused { refusal, carry } => write!(out, "refused {refusal} {carry}"),
+        Ok(inline) => show_inline(out, inline),
+        Err(refusal) => write!(out, "{refusal} {carry}"),
     }
 }
 
@@ -28,48 +45,35 @@ pub enum Part {
     Closer,
 }
 
-fn show_found(out: &mut impl Write, block: Found, part: Part) -> io::Result<()> {
-    let kind = kind_number(block.kind);
+fn show_found(out: &mut impl Write, block: Block, part: Part) -> io::Result<()> {
+    let kind = u8::from(block.kind);
     let stop = block.stop;
     match part {
-        Part::Stop => write!(out, "found {kind} {stop} {}", yes_or_no(block.closed)),
-        Part::Name => write!(out, "found {kind} {}", block.name),
-        Part::Closer => write!(out, "found {kind} {} {stop}", block.closer),
+        Part::Stop => write!(
+            out,
+            "found {kind} {stop} {}",
+            yes_or_no(block.closer.is_some())
+        ),
+        Part::Name => write!(out, "found {kind} {}", block.name.unwrap_or(NO_NAME)),
+        Part::Closer => write!(out, "found {kind} {} {stop}", block.closer.unwrap_or(stop)),
     }
 }
 
-// The same, `none` or `refused NUMBER`.
-fn show_block(out: &mut impl Write, answer: Block, part: Part) -> io::Result<()> {
-    match answer {
-        Block::Found(block) => show_found(out, block, part),
-        Block::Missing => write!(out, "none"),
-        Block::Refused { refusal } => write!(out, "refused {refusal}"),
+// The inline scan in a reading; the carry is the case's one flag.
+pub fn inline(out: &mut impl Write, case: &Case, rules: Rules) -> io::Result<()> {
+    let carry = case.digit();
+    show_scanned(
+        out,
+        inline_scan(rules, &case.text, case.index, carry),
+        carry,
+    )
+}
+
+// The block scan in a reading: what is found, `none` or `refused NUMBER`.
+pub fn block(out: &mut impl Write, case: &Case, rules: Rules, part: Part) -> io::Result<()> {
+    match block_scan(rules, &case.text, &case.flags, case.index) {
+        Ok(Some(block)) => show_found(out, block, part),
+        Ok(None) => write!(out, "none"),
+        Err(refusal) => write!(out, "{refusal}"),
     }
-}
-
-// The inline scan, whose carry is its one flag.
-pub fn inline(out: &mut impl Write, case: &Case) -> io::Result<()> {
-    show_inline(out, inline_scan(&case.text, case.index, case.digit()))
-}
-
-// The same by the standard.
-pub fn standard_inline(out: &mut impl Write, case: &Case) -> io::Result<()> {
-    show_inline(
-        out,
-        standard_inline_scan(&case.text, case.index, case.digit()),
-    )
-}
-
-// The block scan.
-pub fn block(out: &mut impl Write, case: &Case, part: Part) -> io::Result<()> {
-    show_block(out, block_scan(&case.text, &case.flags, case.index), part)
-}
-
-// The same by the standard.
-pub fn standard_block(out: &mut impl Write, case: &Case, part: Part) -> io::Result<()> {
-    show_block(
-        out,
-        standard_block_scan(&case.text, &case.flags, case.index),
-        part,
-    )
 }

@@ -1,8 +1,9 @@
 // Cases of withholding and of the tag filter. The text is the bulletin.
 use crate::case::{Case, is_as_it_was};
 use lexical::slice::from_indices;
-use rules::Output;
-use screen::withhold::{Withheld, standard_withhold, withhold};
+use rules::refusal::Refusal;
+use rules::{Rules, crate_rules};
+use screen::withhold::withhold;
 use std::alloc::Global;
 use std::io;
 use std::io::Write;
@@ -36,52 +37,34 @@ fn show_bytes(out: &mut impl Write, bytes: &[u8]) -> io::Result<()> {
 }
 
 // `refused NUMBER`, behind `same` where the whole output buffer is as it was.
-fn show_refused(out: &mut impl Write, refusal: u8, buffer: &[u8]) -> io::Result<()> {
+fn show_refused(out: &mut impl Write, refusal: Refusal, buffer: &[u8]) -> io::Result<()> {
     show_same(out, buffer, 0)?;
-    write!(out, "refused {refusal}")
+    write!(out, "{refusal}")
 }
 
-// `shown LENGTH PIECES BYTES`, the bytes with escapes, behind `same` where the output buffer is as it was behind them; or a refusal.
-fn show_withheld(out: &mut impl Write, answer: Withheld, buffer: &[u8]) -> io::Result<()> {
-    match answer {
-        Withheld::Shown { length, pieces } => {
-            show_same(out, buffer, length)?;
-            write!(out, "shown {length} {pieces} ")?;
-            show_bytes(out, from_indices(buffer, 0, length))
+// Withholding in a reading: `shown LENGTH PIECES BYTES`, the bytes with escapes, behind `same` where the output buffer is as it was behind them; or a refusal.
+pub fn withheld(alloc: Global, out: &mut impl Write, case: &Case, rules: Rules) -> io::Result<()> {
+    let mut buffer = case.buffer(alloc)?;
+    match withhold(rules, &case.text, &case.flags, &mut buffer) {
+        Ok(withheld) => {
+            let length = withheld.length;
+            show_same(out, &buffer, length)?;
+            write!(out, "shown {length} {} ", withheld.pieces)?;
+            show_bytes(out, from_indices(&buffer, 0, length))
         }
-        Withheld::Refused { refusal } => show_refused(out, refusal, buffer),
+        Err(refusal) => show_refused(out, refusal, &buffer),
     }
 }
 
-// The same, with `written LENGTH BYTES`.
-fn show_written(out: &mut impl Write, answer: Output, buffer: &[u8]) -> io::Result<()> {
-    match answer {
-        Output::Written { length } => {
-            show_same(out, buffer, length)?;
-            write!(out, "written {length} ")?;
-            show_bytes(out, from_indices(buffer, 0, length))
-        }
-        Output::Refused { refusal } => show_refused(out, refusal, buffer),
-    }
-}
-
-// Withholding.
-pub fn withheld(alloc: Global, out: &mut impl Write, case: &Case) -> io::Result<()> {
-    let mut buffer = case.buffer(alloc)?;
-    let answer = withhold(&case.text, &case.flags, &mut buffer);
-    show_withheld(out, answer, &buffer)
-}
-
-// Withholding by the standard.
-pub fn standard_withheld(alloc: Global, out: &mut impl Write, case: &Case) -> io::Result<()> {
-    let mut buffer = case.buffer(alloc)?;
-    let answer = standard_withhold(&case.text, &case.flags, &mut buffer);
-    show_withheld(out, answer, &buffer)
-}
-
-// The tag filter.
+// The tag filter: the same, with `written LENGTH BYTES`.
 pub fn filtered(alloc: Global, out: &mut impl Write, case: &Case) -> io::Result<()> {
     let mut buffer = case.buffer(alloc)?;
-    let answer = filter(&case.text, &case.flags, &mut buffer);
-    show_written(out, answer, &buffer)
+    match filter(crate_rules(), &case.text, &case.flags, &mut buffer) {
+        Ok(length) => {
+            show_same(out, &buffer, length)?;
+            write!(out, "written {length} ")?;
+            show_bytes(out, from_indices(&buffer, 0, length))
+        }
+        Err(refusal) => show_refused(out, refusal, &buffer),
+    }
 }

@@ -1,4 +1,4 @@
--- The structs of the C interface, of each answer: 01's numbers and values, and 0 where there is none, but 255 where there is no name (02, Ask 1). A refusal has its
+-- The structs of the C interface, of each answer: the numbers and values of SCOPE, and 0 where there is none, but 255 where there is no name. A refusal has its
 -- number, zero counts, stops and closers, no name, and the carry passed in.
 use Rattle.std.specs.Prelude.{ℕ, Bool, true, false}
 use Rattle.lexical.specs.Name.{unnamed}

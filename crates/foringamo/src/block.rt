@@ -6,15 +6,19 @@ ghost use Rattle.flow.specs.Answer.{blockAnswerOf};
 ghost use Rattle.trace.specs.Answer.{blockTraced, blockBuffer};
 ghost use Rattle.foringamo.specs.Result.{blockResult, writtenResult};
 
-use crate::written::{WrittenResult, written_result};
-use flow::html_flow::kind_number;
-use flow::scan::{Block, block_scan, standard_block_scan};
-use lexical::constant::NO_NAME;
+use crate::written::WrittenResult;
+use flow::block::Block;
+use flow::scan::block_scan;
+use rules::refusal::Refusal;
+use rules::{crate_rules, standard_rules};
 use trace::block::block_trace;
+
+// The place of what has no name.
+const NO_NAME: u8 = 255;
 
 // What a block scan gives.
 #[repr(C)]
-#[derive(Clone, Copy)]
+#[derive(Clone, Copy, Debug, PartialEq, Eq)]
 pub struct BlockResult {
     // 0: not refused.
     pub refusal: u8,
@@ -29,38 +33,36 @@ pub struct BlockResult {
     pub closer: usize,
 }
 
+// No block.
+const NO_BLOCK: BlockResult = BlockResult {
+    refusal: 0,
+    kind: 0,
+    closed: 0,
+    name: NO_NAME,
+    stop: 0,
+    closer: 0,
+};
+
 // The answer of a block scan, as the interface gives it.
-fn block_result(answer: Block) -> BlockResult
-    ensures { result ≡ blockResult (blockAnswerOf answer) }
-{
-    match answer {
-        Block::Found(found) => {
-            let kind = found.kind;
-            BlockResult {
+impl From<Result<Option<Block>, Refusal>> for BlockResult {
+    ghost from_gives = { λ answer given. given ≡ blockResult (blockAnswerOf answer) };
+
+    fn from(answer: Result<Option<Block>, Refusal>) -> BlockResult {
+        match answer {
+            Ok(Some(block)) => BlockResult {
                 refusal: 0,
-                kind: kind_number(kind),
-                closed: found.closed as u8,
-                name: found.name,
-                stop: found.stop,
-                closer: found.closer,
-            }
+                kind: u8::from(block.kind),
+                closed: block.closer.is_some() as u8,
+                name: block.name.unwrap_or(NO_NAME),
+                stop: block.stop,
+                closer: block.closer.unwrap_or(block.stop),
+            },
+            Ok(None) => NO_BLOCK,
+            Err(refusal) => BlockResult {
+                refusal: u8::from(refusal),
+                ..NO_BLOCK
+            },
         }
-        Block::Missing => BlockResult {
-            refusal: 0,
-            kind: 0,
-            closed: 0,
-            name: NO_NAME,
-            stop: 0,
-            closer: 0,
-        },
-        Block::Refused { refusal } => BlockResult {
-            refusal,
-            kind: 0,
-            closed: 0,
-            name: NO_NAME,
-            stop: 0,
-            closer: 0,
-        },
     }
 }
 
@@ -69,7 +71,7 @@ fn block_result(answer: Block) -> BlockResult
 pub extern "C" fn foringamo_block_scan(bulletin: &[u8], flags: &[u8], index: usize) -> BlockResult
     ensures { result ≡ blockResult (blockScan ofCrate bulletin.now flags.now index) }
 {
-    block_result(block_scan(bulletin, flags, index))
+    BlockResult::from(block_scan(crate_rules(), bulletin, flags, index))
 }
 
 // The block that the line at an index opens by the standard.
@@ -81,7 +83,7 @@ pub extern "C" fn foringamo_standard_block_scan(
 ) -> BlockResult
     ensures { result ≡ blockResult (blockScan standard bulletin.now flags.now index) }
 {
-    block_result(standard_block_scan(bulletin, flags, index))
+    BlockResult::from(block_scan(standard_rules(), bulletin, flags, index))
 }
 
 // The trace of a block scan.
@@ -95,5 +97,5 @@ pub extern "C" fn foringamo_block_trace(
     ensures answer { result ≡ writtenResult (blockTraced bulletin.now flags.now index (length out.old)) }
     ensures buffer { out.new ≡ blockBuffer bulletin.now flags.now index out.old }
 {
-    written_result(block_trace(bulletin, flags, index, out))
+    WrittenResult::from(block_trace(bulletin, flags, index, out))
 }

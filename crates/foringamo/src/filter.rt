@@ -5,7 +5,8 @@ ghost use Rattle.rules.specs.Withhold.{written};
 ghost use Rattle.rules.specs.Filter.{filtered, filter as filterOf, filterRefusal};
 ghost use Rattle.foringamo.specs.Result.{writtenResult};
 
-use crate::written::{WrittenResult, written_result};
+use crate::written::WrittenResult;
+use rules::crate_rules;
 use tagfilter::filter::filter;
 
 // Shows a bulletin with its raw HTML, the `<` of GitHub's nine tags as `&lt;`.
@@ -14,5 +15,5 @@ pub extern "C" fn foringamo_filter(bulletin: &[u8], flags: &[u8], out: &mut [u8]
     ensures answer { result ≡ writtenResult (filterOf ofCrate bulletin.now flags.now (length out.old)) }
     ensures buffer { out.new ≡ written (filterRefusal ofCrate bulletin.now flags.now (length out.old)) (filtered ofCrate bulletin.now flags.now) out.old }
 {
-    written_result(filter(bulletin, flags, out))
+    WrittenResult::from(filter(crate_rules(), bulletin, flags, out))
 }

@@ -1,13 +1,15 @@
 // Reading a trace.
 ghost use Rattle.std.specs.Prelude.{◌≡◌};
 ghost use Rattle.rules.specs.Trace.{wide, readTrace};
+ghost use Rattle.records.specs.Answer.{recordOf, readOf};
 ghost use Rattle.foringamo.specs.Result.{recordResult};
 
 use records::reader::{Record, read_trace};
+use rules::refusal::Refusal;
 
 // A record of a trace.
 #[repr(C)]
-#[derive(Clone, Copy)]
+#[derive(Clone, Copy, Debug, PartialEq, Eq)]
 pub struct RecordResult {
     // 0: not refused.
     pub refusal: u8,
@@ -22,18 +24,18 @@ pub struct RecordResult {
     pub index: usize,
 }
 
-// The record of a number, counted from 0.
-#[unsafe(no_mangle)]
-pub extern "C" fn foringamo_read_trace(trace: &[u8], number: usize) -> RecordResult
-    ensures { result ≡ recordResult (readTrace wide number trace.now) }
+// A record, as the interface gives it.
+fn record_result(given: Record) -> RecordResult
+    ensures { result ≡ recordResult (recordOf given) }
 {
-    match read_trace(trace, number) {
+    let kind = given.number();
+    match given {
         Record::Event {
-            kind,
             line,
             column,
             index,
             vs,
+            ..
         } => RecordResult {
             refusal: 0,
             kind,
@@ -42,7 +44,7 @@ pub extern "C" fn foringamo_read_trace(trace: &[u8], number: usize) -> RecordRes
             column,
             index,
         },
-        Record::Last { kind, stop, value } => RecordResult {
+        Record::Last { stop, value, .. } => RecordResult {
             refusal: 0,
             kind,
             last: value,
@@ -50,13 +52,32 @@ pub extern "C" fn foringamo_read_trace(trace: &[u8], number: usize) -> RecordRes
             column: 0,
             index: stop,
         },
-        Record::Refused { refusal } => RecordResult {
-            refusal,
-            kind: 0,
-            last: 0,
-            line: 0,
-            column: 0,
-            index: 0,
-        },
     }
+}
+
+// The answer of reading a trace, as the interface gives it.
+impl From<Result<Record, Refusal>> for RecordResult {
+    ghost from_gives = { λ answer given. given ≡ recordResult (readOf answer) };
+
+    fn from(answer: Result<Record, Refusal>) -> RecordResult {
+        match answer {
+            Ok(record) => record_result(record),
+            Err(refusal) => RecordResult {
+                refusal: u8::from(refusal),
+                kind: 0,
+                last: 0,
+                line: 0,
+                column: 0,
+                index: 0,
+            },
+        }
+    }
+}
+
+// The record of a number, counted from 0.
+#[unsafe(no_mangle)]
+pub extern "C" fn foringamo_read_trace(trace: &[u8], number: usize) -> RecordResult
+    ensures { result ≡ recordResult (readTrace wide number trace.now) }
+{
+    RecordResult::from(read_trace(trace, number))
 }

@@ -5,11 +5,13 @@ ghost use Rattle.rules.specs.Withhold.{shown, withhold as withholdOf, withholdRe
 ghost use Rattle.screen.specs.Answer.{shownOf};
 ghost use Rattle.foringamo.specs.Result.{shownResult};
 
-use screen::withhold::{Withheld, standard_withhold, withhold};
+use rules::refusal::Refusal;
+use rules::{crate_rules, standard_rules};
+use screen::withhold::{Withheld, withhold};
 
 // What withholding gives.
 #[repr(C)]
-#[derive(Clone, Copy)]
+#[derive(Clone, Copy, Debug, PartialEq, Eq)]
 pub struct ShownResult {
     // 0: not refused.
     pub refusal: u8,
@@ -20,20 +22,22 @@ pub struct ShownResult {
 }
 
 // The answer of withholding, as the interface gives it.
-fn shown_result(answer: Withheld) -> ShownResult
-    ensures { result ≡ shownResult (shownOf answer) }
-{
-    match answer {
-        Withheld::Shown { length, pieces } => ShownResult {
-            refusal: 0,
-            length,
-            pieces,
-        },
-        Withheld::Refused { refusal } => ShownResult {
-            refusal,
-            length: 0,
-            pieces: 0,
-        },
+impl From<Result<Withheld, Refusal>> for ShownResult {
+    ghost from_gives = { λ answer given. given ≡ shownResult (shownOf answer) };
+
+    fn from(answer: Result<Withheld, Refusal>) -> ShownResult {
+        match answer {
+            Ok(shown) => ShownResult {
+                refusal: 0,
+                length: shown.length,
+                pieces: shown.pieces,
+            },
+            Err(refusal) => ShownResult {
+                refusal: u8::from(refusal),
+                length: 0,
+                pieces: 0,
+            },
+        }
     }
 }
 
@@ -43,7 +47,7 @@ pub extern "C" fn foringamo_withhold(bulletin: &[u8], flags: &[u8], out: &mut [u
     ensures answer { result ≡ shownResult (withholdOf ofCrate bulletin.now flags.now (length out.old)) }
     ensures buffer { out.new ≡ written (withholdRefusal ofCrate bulletin.now flags.now (length out.old)) (shown ofCrate bulletin.now flags.now) out.old }
 {
-    shown_result(withhold(bulletin, flags, out))
+    ShownResult::from(withhold(crate_rules(), bulletin, flags, out))
 }
 
 // Shows a bulletin without its raw HTML by the standard.
@@ -56,5 +60,5 @@ pub extern "C" fn foringamo_standard_withhold(
     ensures answer { result ≡ shownResult (withholdOf standard bulletin.now flags.now (length out.old)) }
     ensures buffer { out.new ≡ written (withholdRefusal standard bulletin.now flags.now (length out.old)) (shown standard bulletin.now flags.now) out.old }
 {
-    shown_result(standard_withhold(bulletin, flags, out))
+    ShownResult::from(withhold(standard_rules(), bulletin, flags, out))
 }

@@ -3,23 +3,27 @@ ghost use Rattle.std.specs.Prelude.{◌≡◌};
 ghost use Rattle.rules.specs.Output.{outputOf};
 ghost use Rattle.foringamo.specs.Result.{writtenResult};
 
-use rules::Output;
+use rules::refusal::Refusal;
 
 // How much was written, and the refusal of it.
 #[repr(C)]
-#[derive(Clone, Copy)]
+#[derive(Clone, Copy, Debug, PartialEq, Eq)]
 pub struct WrittenResult {
     // 0: not refused.
     pub refusal: u8,
     pub length: usize,
 }
 
-// The answer of an entry that writes, as the interface gives it.
-pub(crate) fn written_result(answer: Output) -> WrittenResult
-    ensures { result ≡ writtenResult (outputOf answer) }
-{
-    match answer {
-        Output::Written { length } => WrittenResult { refusal: 0, length },
-        Output::Refused { refusal } => WrittenResult { refusal, length: 0 },
+impl From<Result<usize, Refusal>> for WrittenResult {
+    ghost from_gives = { λ answer given. given ≡ writtenResult (outputOf answer) };
+
+    fn from(answer: Result<usize, Refusal>) -> WrittenResult {
+        match answer {
+            Ok(length) => WrittenResult { refusal: 0, length },
+            Err(refusal) => WrittenResult {
+                refusal: u8::from(refusal),
+                length: 0,
+            },
+        }
     }
 }

@@ -1,10 +1,6 @@
 -- Of buffers in which only the front changes: a change in the front of what is left is one in a longer front of the whole.
-use mathlib.Core.Path.{◌≡◌, sym, ◌∙◌, ap}
-use mathlib.Core.List.{List, ◌++◌}
-use Prim.Native.Nat.{ℕ, ◌+◌, ◌-◌}
-use native.Mathlib.Omega.{arith}
-use lib.ListN.{length, take, drop, length-take, length-drop, take-append-drop}
-use lib.Seq.{drop-drop, drop-append-add, drop-append-le, length-take-le}
+use Rattle.std.proofs.Common.{◌≡◌, sym, ◌∙◌, ap, List, ◌++◌, ℕ, ◌+◌, ◌-◌, arith, length, take, drop, length-take, length-drop, take-append-drop, drop-drop, length-take-le}
+use lib.Seq.{drop-append-add, drop-append-le}
 use borrow.Rule.Slice.PartMut.{mid_of, post_of, put_mid, same_len_mid}
 use Rattle.withhold.specs.Input.{FrontOnly}
 

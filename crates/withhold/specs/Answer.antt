@@ -1,4 +1,4 @@
--- What the program shows: 01, What is read and given, and 02, Ask 7.
+-- What the program shows: SCOPE, What is read and given, and SCOPE, Long bulletins.
 use Rattle.std.specs.Prelude.{ℕ, List, ltb, length, replicate}
 use Rattle.lexical.specs.Line.{lines}
 use Rattle.rules.specs.Reading.{crate as ofCrate}

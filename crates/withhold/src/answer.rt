@@ -5,24 +5,23 @@ ghost use Rattle.withhold.specs.Answer.{answerOf, bufferOf};
 
 use lexical::line::count_lines;
 use lexical::slice::from_indices;
+use rules::crate_rules;
+use rules::refusal::Refusal;
 use screen::withhold::{Withheld, withhold};
 
 // How many bytes a bulletin has at most: fewer than the library takes.
 pub(crate) const LIMIT: usize = 16000;
 
-// 01, Where each refusal is met: the bulletin is too long.
-const TOO_LONG: u8 = 1;
-
 // Withholds from a bulletin all of whose flags are 0, unless it is too long.
-pub(crate) fn answer(bulletin: &[u8], out: &mut [u8]) -> Withheld
+pub(crate) fn answer(bulletin: &[u8], out: &mut [u8]) -> Result<Withheld, Refusal>
     ensures answer { shownOf result ≡ answerOf bulletin.now (length out.old) }
     ensures buffer { out.new ≡ bufferOf bulletin.now out.old }
 {
     if bulletin.len() > LIMIT {
-        return Withheld::Refused { refusal: TOO_LONG };
+        return Err(Refusal::TooLong);
     }
     // There is one line more than there are line endings.
     let flags = [0u8; LIMIT + 1];
     let lines = count_lines(bulletin);
-    withhold(bulletin, from_indices(&flags, 0, lines), out)
+    withhold(crate_rules(), bulletin, from_indices(&flags, 0, lines), out)
 }

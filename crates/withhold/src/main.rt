@@ -1,5 +1,5 @@
 // The program. It withholds raw HTML from the bulletin on standard input, all of whose flags are 0, and writes what is shown to standard output. On a refusal it
-// writes only `refused N` and LF, to standard error: 01, What is read and given. Where it cannot read, or cannot write, it says so there, in one line.
+// writes only `refused N` and LF, to standard error. Where it cannot read, or cannot write, it says so there, in one line.
 #![tactic(auto)]
 
 mod answer;
@@ -8,33 +8,28 @@ mod input;
 mod output;
 
 use answer::{LIMIT, answer};
-use input::{Input, read_input};
+use input::read_input;
 use lexical::slice::from_indices;
 use output::write_output;
-use screen::withhold::Withheld;
 
 // A line on standard error, and nothing where that cannot be written: there is no other place to say so.
 fn say(rt: &HostRuntime, line: &str) {
     let mut error = rt.stderr();
-    write_output(&mut error, line.as_bytes());
-}
-
-fn refuse(rt: &HostRuntime, refusal: u8) {
-    let written = eprintln!(rt; "refused {refusal}");
-    if written.is_err() {}
+    let _ = write_output(&mut error, line.as_bytes());
 }
 
 fn show(rt: &HostRuntime, bulletin: &[u8]) {
     let mut out = [0u8; LIMIT];
     match answer(bulletin, &mut out) {
-        Withheld::Shown { length, pieces: _ } => {
-            let shown = from_indices(&out, 0, length);
+        Ok(withheld) => {
             let mut output = rt.stdout();
-            if write_output(&mut output, shown) < shown.len() {
+            if write_output(&mut output, from_indices(&out, 0, withheld.length)).is_err() {
                 say(rt, "withhold: cannot write standard output\n");
             }
         }
-        Withheld::Refused { refusal } => refuse(rt, refusal),
+        Err(refusal) => {
+            let _ = eprintln!(rt; "{refusal}");
+        }
     }
 }
 
@@ -43,7 +38,7 @@ fn main(rt: HostRuntime) {
     let mut text = [0u8; LIMIT + 1];
     let mut input = rt.stdin();
     match read_input(&mut input, &mut text) {
-        Input::Read { length } => show(&rt, from_indices(&text, 0, length)),
-        Input::Failed => say(&rt, "withhold: cannot read standard input\n"),
+        Ok(length) => show(&rt, from_indices(&text, 0, length)),
+        Err(_) => say(&rt, "withhold: cannot read standard input\n"),
     }
 }

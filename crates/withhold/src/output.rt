@@ -1,31 +1,31 @@
 // Standard output, written to the last byte.
-ghost use Rattle.std.specs.Prelude.{◌≤◌, length};
+ghost use Rattle.std.specs.Prelude.{OnOk};
+ghost use Rattle.std.specs.Io.KnownBytes.{Appends};
+ghost use Rattle.withhold.specs.Output.{Sent};
 
-use crate::call::{PATIENCE, Told, tells};
-use std::io::Write;
+use crate::call::{Again, PATIENCE, tells};
+use std::io;
+use std::io::{ErrorKind, Write};
 
-// Writes the bytes, and gives how many were taken: fewer than all where a call failed.
-pub(crate) fn write_output<W: Write>(writer: &mut W, bytes: &[u8]) -> usize
-    ensures { result ≤ length bytes.now }
+// One call, of the bytes that are left.
+fn write_front<W: Write>(writer: &mut W, rest: &[u8], patience: usize) -> io::Result<Option<Again>>
+    ensures { Sent patience result rest.now (W.contents writer.old) (W.contents writer.new) }
 {
-    let mut done = 0;
+    tells(writer.write(rest), patience)
+}
+
+// Writes the bytes, all of them where no call failed.
+pub(crate) fn write_output<W: Write>(writer: &mut W, bytes: &[u8]) -> io::Result<()>
+    ensures { OnOk result (Appends (W.contents writer.old) (W.contents writer.new) bytes.now) }
+{
+    let mut rest = bytes;
     let mut patience = PATIENCE;
-    while done < bytes.len() {
-        match tells(writer.write(&bytes[done..]), patience) {
-            Told::Again {
-                count,
-                patience: left,
-            } => {
-                done += count;
-                patience = left;
-            }
-            Told::Nothing => {
-                return done;
-            }
-            Told::Failed => {
-                return done;
-            }
-        }
+    while !rest.is_empty() {
+        let Some(again) = write_front(writer, rest, patience)? else {
+            return Err(io::Error::from(ErrorKind::WriteZero));
+        };
+        rest = &rest[again.count..];
+        patience = again.patience;
     }
-    done
+    Ok(())
 }

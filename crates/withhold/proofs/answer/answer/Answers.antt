@@ -15,4 +15,4 @@ pub returns : goal.returns
 returns c =
     let text = c.args.bulletin.now in
     let f = c.from_indices.ensures ∙ flags-are text c.count_lines-lines.result c.if-bulletin-gt-LIMIT.false c.count_lines-lines.ensures in
-    rw (le-ltb most (length text) c.if-bulletin-gt-LIMIT.false, ← f) (record { answer = c.withhold.ensures.answer; buffer = c.withhold.ensures.buffer })
+    rw (le-ltb most (length text) c.if-bulletin-gt-LIMIT.false, ← f) (record { answer = rw c.crate_rules.ensures at c.withhold.ensures.answer; buffer = rw c.crate_rules.ensures at c.withhold.ensures.buffer })
