@@ -75,7 +75,7 @@ mod rust {
         block: bool,
     }
 
-    // 01's Withhold paragraph over the Rust's scans. A scan gets what begins at its place, since the Rust walks to an index from line 1. Nothing is refused.
+    // docs/SCOPE.md, Withhold, over the Rust's scans. A scan gets what begins at its place, since the Rust walks to an index from line 1. Nothing is refused.
     fn pieces(bulletin: &[u8], flags: &[u8]) -> Vec<Found> {
         let mut pieces: Vec<Found> = vec![];
         let mut paragraph: Option<(usize, usize)> = None;
@@ -102,7 +102,7 @@ mod rust {
         pieces
     }
 
-    // The pieces of the paragraph between the index and the end. A `<` behind an odd run of backslashes is not tried: 02, Ask 6.
+    // The pieces of the paragraph between the index and the end. A `<` behind an odd run of backslashes is not tried: docs/SCOPE.md, Backslash before a tag.
     fn inline_pieces(text: &[u8], index: usize, pieces: &mut Vec<Found>) {
         let mut index = index;
         while let Some(size) = text[index..].iter().position(|&byte| byte == b'<') {

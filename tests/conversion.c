@@ -218,7 +218,7 @@ static const row event = {5, {0x0102, 0x0304, 0x0506}, 7};
 static const row other = {LAST_EVENT, {1, 2, 3}, 4};
 static const row last = {LAST_TEXT, {0x0809}, 5};
 
-/* 01, Traces; 02, Ask 7: that of `<b>`. */
+/* The trace of `<b>`, docs/SCOPE.md, Traces: narrow, as it once was, and wide. */
 static const uint8_t narrow_b[] = {
     0x07, 0x01, 0x00, 0x01, 0x00, 0x00, 0x00, 0x00,
     0x09, 0x01, 0x00, 0x01, 0x00, 0x00, 0x00, 0x00,

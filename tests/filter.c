@@ -216,7 +216,7 @@ static void filter_places(void) {
     CHECK(becomes("<xmp>\n<xmp <xmp\n", "&lt;xmp>\n&lt;xmp &lt;xmp\n"));
 }
 
-/* The filter takes its inline pieces as withholding does: 02, Ask 6. In a block a backslash means nothing. */
+/* The filter takes its inline pieces as withholding does: docs/SCOPE.md, Backslash before a tag. In a block a backslash means nothing. */
 static void filter_backslashes(void) {
     CHECK(stays("a \\<xmp>"));
     CHECK(becomes("a \\\\<xmp>", "a \\\\&lt;xmp>"));

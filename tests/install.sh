@@ -122,7 +122,7 @@ refuses() {
 shows() {
     (cd / && printf 'door <!-- x -->9\n<div>\nold\n\nok' | "$2") >"$folder/shown" 2>"$folder/said"
     printf 'door 9\n\n\nok' >"$folder/expected"
-    check "$1: does not show 01's row" cmp -s "$folder/shown" "$folder/expected"
+    check "$1: does not show the added screen" cmp -s "$folder/shown" "$folder/expected"
     check "$1: writes to standard error" test ! -s "$folder/said"
 }
 

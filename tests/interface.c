@@ -303,7 +303,7 @@ static void block_trace(void) {
     REFUSES_WRITTEN(7, foringamo_block_trace(TEXT("<\nx"), zeros, 2, 2, out, LAST - 1));
 }
 
-/* 01, Traces; 02, Ask 7: that of `<b>`. */
+/* docs/SCOPE.md, Traces: that of `<b>`. */
 static const uint8_t b[] = {
     0x07, 0x01, 0x00, 0x00, 0x00, 0x01, 0x00, 0x00, 0x00, 0x00, 0x00, 0x00, 0x00, 0x00,
     0x09, 0x01, 0x00, 0x00, 0x00, 0x01, 0x00, 0x00, 0x00, 0x00, 0x00, 0x00, 0x00, 0x00,
@@ -396,7 +396,7 @@ static void withhold(const reading *by) {
     REFUSES_SHOWN(7, by->withhold(TEXT("a"), zeros, 1, NOWHERE, 0));
     REFUSES_SHOWN(7, by->withhold(big, LIMIT, zeros, 1, out, ROOM));
 
-    /* 01, The added screen. */
+    /* docs/SCOPE.md, The added screen. */
     const char shown[] = "door 9\n\n\nok";
     for (size_t room = 0; room <= ROOM; room++) {
         fill();

@@ -100,7 +100,7 @@ comment() {
     printf -- '-->'
 }
 
-# 01, The added screen.
+# docs/SCOPE.md, The added screen.
 row() {
     printf 'door <!-- x -->9\n<div>\nold\n\nok' >"$folder/in"
     printf 'door 9\n\n\nok' >"$folder/shown"
@@ -110,7 +110,7 @@ row() {
 # ---- bulletins
 
 row
-both "01's row" 0 env
+both 'the added screen' 0 env
 
 : >"$folder/in"
 shows 'no byte'
@@ -449,7 +449,7 @@ runs() {
     is "$1: the runs of rt" "$(wc -l <"$folder/runs")" "$2"
 }
 
-# shown_by WHAT COMMAND..: the command shows 01's row, with status 0, whatever it says.
+# shown_by WHAT COMMAND..: the command shows the added screen, with status 0, whatever it says.
 shown_by() {
     local what=$1
     shift

@@ -62,7 +62,7 @@ for text, count in [(b"", 1), (b"a", 1), (b"a\nb", 2), (b"a\r\nb", 2), (b"a\rb",
 
 bulletin = b"door <!-- x -->9\n<div>\nold\n\nok"
 flags = bytes(lines(bulletin))
-check("01's row", withhold(bulletin, flags, len(bulletin)), (0, 2, b"door 9\n\n\nok", True))
+check("the added screen", withhold(bulletin, flags, len(bulletin)), (0, 2, b"door 9\n\n\nok", True))
 check("a block of kind 6", block(bulletin, flags, 17), (0, 6, 0, 15, 26, 26))
 check("a block of kind 1", block(b"<Script></style>", b"\0", 0), (0, 1, 1, 1, 16, 8))
 check("no block", block(bulletin, flags, 0), (0, 0, 0, 255, 0, 0))

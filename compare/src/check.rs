@@ -1,5 +1,5 @@
-//! One comparison of each kind: what the Rust, 01's table and the rules of 02 say
-//! against what the library says.
+//! One comparison of each kind: what the Rust and the table and rules of
+//! docs/SCOPE.md say against what the library says.
 
 use crate::closer;
 use crate::conversion::{self, Way};
@@ -349,7 +349,7 @@ pub fn read(trace: &[u8], number: usize) -> Outcome {
     Ok(wanted.refusal == 0)
 }
 
-/// A bulletin with its flags: the refusal by 01's table and, where there is none,
+/// A bulletin with its flags: the refusal by the table and, where there is none,
 /// the pieces by the Rust's scans.
 pub struct Screen<'a> {
     bulletin: &'a [u8],

@@ -1,5 +1,6 @@
-//! Old traces across and back, by the words of 02, Ask 8, over lists of records:
-//! on the way to narrow the two high bytes of each field go, and have to be 0.
+//! Old traces across and back, by the words of docs/SCOPE.md, over lists of
+//! records: on the way to narrow the two high bytes of each field go, and have
+//! to be 0.
 
 use crate::table;
 

@@ -527,7 +527,7 @@ fn made(seed: u64, count: u64, tally: &mut Tally) {
     }
 }
 
-/// An input that one or more rows of 01's table may refuse.
+/// An input that one or more rows of the table of refusals may refuse.
 fn refusal(random: &mut Random, text: &[u8], tally: &mut Tally) {
     let mut text = text.to_vec();
     if random.once_in(AT_LIMIT) {
@@ -673,7 +673,7 @@ fn main() -> ExitCode {
             println!("{}: a difference", ROWS[row]);
             println!("  {}", ask.describe());
             println!("  {}", difference.what);
-            println!("  the Rust, 01 or 02: {}", difference.wanted);
+            println!("  the Rust or SCOPE:  {}", difference.wanted);
             println!("  the library:        {}\n", difference.given);
         }
     }

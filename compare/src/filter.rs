@@ -1,4 +1,5 @@
-//! GitHub's tag filter by the plain rule (02, Ask 4): what is shown of a piece.
+//! docs/SCOPE.md, GitHub's tag filter, by the plain rule: what is shown of a
+//! piece.
 
 use std::ops::Range;
 

@@ -12,7 +12,8 @@
 //!     --events                adds the events to each answer, in words
 //!     --self-test             compares known answers, status 1 where one differs
 //!     --random COUNT [SEED]   compares random scans with the shape that
-//!                             01, Reading rules, gives to stops and events
+//!                             docs/SCOPE.md, Reading rules, gives to stops
+//!                             and events
 
 #[allow(dead_code)]
 mod generator;

@@ -1,5 +1,5 @@
-//! Random scans, compared with what 01, Reading rules, says of stops, carry
-//! and events where the kind and the place of a closer are known.
+//! Random scans, compared with what docs/SCOPE.md, Reading rules, says of stops,
+//! carry and events where the kind and the place of a closer are known.
 
 use crate::generator::Random;
 use crate::{to_hex, words};

@@ -6,7 +6,7 @@
 //! then those of families.rs are taken. One is kept where it reaches a pair of a
 //! state of the Rust and a class of byte that no kept scan with the same outcome
 //! has reached, or has an answer of a new shape; in the end those that the others
-//! make needless are dropped. Refusals are kept where a new set of 01's
+//! make needless are dropped. Refusals are kept where a new set of their
 //! conditions applies, and a few scans have stops that two bytes do not hold. With
 //! each trace goes whether it comes back from narrow (conversion.rs). What is
 //! covered is told. The form of a case and of an answer stands in
@@ -280,7 +280,7 @@ impl Recorder {
         }
     }
 
-    /// Refusals of scans: every set of 01's conditions that one input can meet.
+    /// Refusals of scans: every set of their conditions that one input can meet.
     fn refusals(&mut self) {
         for _ in 0..20_000 {
             let text = fragments::text(&mut self.random);

@@ -1,4 +1,4 @@
-//! Known answers: the rows of 01, Corners, and points and traces that
+//! Known answers: the rows of docs/SCOPE.md, Corners, and points and traces that
 //! are easy to get wrong.
 
 use crate::{to_hex, words};
@@ -138,8 +138,8 @@ const BLOCK: [(&str, &[u8], usize, &str); 71] = [
     ("\\<p>", &[0], 0, "0 0 0"),
 ];
 
-/// Where the closer begins (02, Ask 2): bulletin, flags, first byte of the closer
-/// of the block at 0, or its stop.
+/// docs/SCOPE.md, Where the closer stands: bulletin, flags, first byte of the
+/// closer of the block at 0, or its stop.
 const CLOSERS: [(&str, &[u8], usize); 24] = [
     ("<!-->", &[0], 2),
     ("<!--->", &[0], 3),

@@ -1,15 +1,16 @@
-//! 01's table of refusals, and trace reading, written down plainly. A refusal
-//! of 0 is none.
+//! The table of refusals of docs/SCOPE.md, and trace reading, written down
+//! plainly. A refusal of 0 is none.
 
 use reference::{holds_blank_line, line_starts, EVENT_LENGTH, FIELD_LENGTH, LAST_LENGTH};
 
-/// 01, What is read and given, with 02, Ask 7: at most 1,000,000 bytes.
+/// docs/SCOPE.md, What is read and given: at most 1,000,000 bytes.
 pub const LIMIT: usize = 1_000_000;
 
 /// The refusal of an output buffer.
 pub const NO_ROOM: u8 = 7;
 
-/// 02, Ask 8: the refusal of a trace that has a field which two bytes do not hold.
+/// docs/SCOPE.md, Old traces across and back: the refusal of a trace that has a
+/// field which two bytes do not hold.
 pub const NOT_NARROW: u8 = 11;
 
 /// The refusal of a bulletin and its flags.

@@ -1,5 +1,5 @@
-//! 01, Withhold, with 02, Ask 6, over the Rust's scans: the pieces of a bulletin,
-//! and what is shown without them.
+//! docs/SCOPE.md, Withhold, with its Backslash before a tag, over the Rust's
+//! scans: the pieces of a bulletin, and what is shown without them.
 
 use reference::{blank, block, inline, line_end, line_starts};
 use std::ops::Range;
