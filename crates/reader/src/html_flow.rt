@@ -24,8 +24,8 @@ impl Line {
         ensures { result ≡ lineOf rules self b }
     {
         Line {
-            kind: self.kind,
             name: continuation_step(rules, self.kind, self.name, b),
+            ..self
         }
     }
 }

@@ -54,12 +54,10 @@ module _ (text : List ℕ) (stop : ℕ) where
       }
 
   -- up to the next `<` of the line
-  pub passed-plain : (front : List ℕ) → front ≡ take (stop - 0) text → (i j : ℕ) → i ≤ stop → j ≡ i + run isPlain (drop i front) → stop ≤ length text → Passed text stop i j
-  passed-plain front f i j h e l =
+  pub passed-plain : (i j : ℕ) → i ≤ stop → j ≡ i + run isPlain (drop i (take stop text)) → stop ≤ length text → Passed text stop i j
+  passed-plain i j h e l =
       let n = run isPlain (take (stop - i) (drop i text)) in
-      let w : stop - 0 ≡ stop = omega arith in
-      let g : drop i front ≡ take (stop - i) (drop i text) = ap (drop i) f ∙ ap (λ (k : ℕ). drop i (take k text)) w ∙ drop-take i stop text in
-      let r : run isPlain (drop i front) ≡ n = ap (run isPlain) g in
+      let r : run isPlain (drop i (take stop text)) ≡ n = ap (run isPlain) (drop-take i stop text) in
       let m : n ≤ length (take (stop - i) (drop i text)) = run-length isPlain (take (stop - i) (drop i text)) in
       let s : length (take (stop - i) (drop i text)) ≡ stop - i = length-take-le (stop - i) (drop i text) (omega (arith, length-drop i text)) in
       let q : i + n ≡ j = omega (arith, e, r) in

@@ -6,7 +6,6 @@ ghost use Rattle.tagfilter.specs.Part.{replacedBetween, NextTag, WritesPart};
 use crate::tag::is_disallowed;
 use lexical::copy::copy_part;
 use lexical::line::mark_or_line_end;
-use lexical::slice::from_indices;
 
 // What comes in place of `<`.
 const ENTITY: &[u8] = b"&lt;";
@@ -16,7 +15,7 @@ fn next_tag(bulletin: &[u8], index: usize, stop: usize) -> Option<usize>
     requires { (index ≤ stop) × (stop ≤ length bulletin.now) }
     ensures { NextTag bulletin.now index stop result }
 {
-    let front = from_indices(bulletin, 0, stop);
+    let front = &bulletin[..stop];
     let mut i = mark_or_line_end(front, index, b'<');
     while i < stop {
         if is_disallowed(&bulletin[i..]) {

@@ -30,10 +30,7 @@ fn ends_empty(text: &[u8], start: usize, stop: usize) -> bool
 fn has_closer(kind: Kind) -> bool
     ensures { result ≡ leb (kindNumber kind) 5 }
 {
-    match kind {
-        Kind::Basic | Kind::Complete => false,
-        _ => true,
-    }
+    !matches!(kind, Kind::Basic | Kind::Complete)
 }
 
 // Where a block is left: at its stop, but an ending too far where no closer was met and the last line has no bytes (docs/DECISIONS.md, 1).

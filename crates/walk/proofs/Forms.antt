@@ -7,9 +7,9 @@ use Rattle.rules.specs.Search.{begins}
 use Rattle.walk.specs.Closer.{isDeclaration, formOf}
 use Rattle.walk.specs.declared.closers.Form.TheVariants.{Comment, Instruction, Declaration, Cdata, Other}
 
--- what `from_indices` gives from an index to the end
-pub rest-is : (text : List ℕ) (i : ℕ) {t : List ℕ} → t ≡ take (length text - i) (drop i text) → t ≡ drop i text
-rest-is text i e = e ∙ take_all (length text - i) (drop i text) (omega (arith, length-drop i text))
+-- what a slice from an index on is
+pub rest-is : (text : List ℕ) (i : ℕ) → take (length text - i) (drop i text) ≡ drop i text
+rest-is text i = take_all (length text - i) (drop i text) (omega (arith, length-drop i text))
 
 -- ---- std's word for what a text begins with
 turned : (x y : ℕ) → eqb x y ≡ eqb y x

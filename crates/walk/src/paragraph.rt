@@ -98,7 +98,7 @@ fn attempt(rules: Rules, text: &[u8], index: usize, closers: Closers) -> Result<
     requires { index < length text.now }
     ensures { Known closers (drop index text.now) → Attempt rules text.now index result }
 {
-    let opening = from_indices(text, index, text.len());
+    let opening = &text[index..];
     // While every closer may lie ahead, the form does not matter.
     if closers != Closers::all() && !closers.is_ahead(Form::of(opening)) {
         return Err(closers);

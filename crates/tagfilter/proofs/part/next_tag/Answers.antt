@@ -1,4 +1,4 @@
-use Rattle.std.proofs.Common.{refl, sym, ◌∙◌, ap, ◌+◌}
+use Rattle.std.proofs.Common.{sym, ◌∙◌, ap, ◌+◌}
 use Rattle.rules.specs.Filter.{isDisallowed}
 use Rattle.walk.proofs.Forms.{rest-is}
 use Rattle.tagfilter.proofs.Parts.{passed-on, passed-plain, passed-one, passed-all}
@@ -6,21 +6,21 @@ use Rattle.tagfilter.proofs.part.next_tag.Goals as goal
 
 pub loop-i-init : goal.loop-i-init
 loop-i-init c = let a = c.args in let pre = c.requires in
-    passed-plain a.bulletin.now a.stop _ c.from_indices-front.ensures a.index _ pre.0 c.mark_or_line_end-i.ensures pre.1
+    passed-plain a.bulletin.now a.stop a.index _ pre.0 c.mark_or_line_end-i.ensures pre.1
 
 pub returns-then-is_disallowed : goal.returns-then-is_disallowed
 returns-then-is_disallowed c = let a = c.args in
     record {
       passed = c.loop-i.invariant;
       within = c.loop-i-test.true;
-      tag = ap isDisallowed (sym (rest-is a.bulletin.now c.loop-i.i refl)) ∙ sym c.is_disallowed.ensures ∙ c.if-is_disallowed.true;
+      tag = ap isDisallowed (sym (rest-is a.bulletin.now c.loop-i.i)) ∙ sym c.is_disallowed.ensures ∙ c.if-is_disallowed.true;
     }
 
 pub loop-i-preserved : goal.loop-i-preserved
 loop-i-preserved c = let a = c.args in let pre = c.requires in let at = c.loop-i in let t = c.loop-i-test.true in
-    let none = ap isDisallowed (sym (rest-is a.bulletin.now at.i refl)) ∙ sym c.is_disallowed.ensures ∙ c.if-is_disallowed.false in
+    let none = ap isDisallowed (sym (rest-is a.bulletin.now at.i)) ∙ sym c.is_disallowed.ensures ∙ c.if-is_disallowed.false in
     let one = passed-one a.bulletin.now a.stop at.i t pre.1 none in
-    let more = passed-plain a.bulletin.now a.stop _ c.from_indices-front.ensures (at.i + 1) _ one.to c.mark_or_line_end-i-in-loop-i.ensures pre.1 in
+    let more = passed-plain a.bulletin.now a.stop (at.i + 1) _ one.to c.mark_or_line_end-i-in-loop-i.ensures pre.1 in
     passed-on a.bulletin.now a.stop a.index at.i _ at.invariant (passed-on a.bulletin.now a.stop at.i (at.i + 1) _ one more)
 
 pub returns : goal.returns
