@@ -7,7 +7,7 @@ ghost use Rattle.html.specs.Answer.{inlineOf, inlineScanOf};
 
 use crate::tokenizer::{Inline, StateName, run};
 use lexical::byte::{is_line_ending_byte, peek};
-use lexical::constant::is_over_limit;
+use lexical::constant::{HTML_CDATA_SIZE, is_over_limit};
 use lexical::line::{ends_line, line_end, space_or_tab_end};
 use rules::Rules;
 use rules::refusal::Refusal;
@@ -47,7 +47,7 @@ fn check_inline(text: &[u8], index: usize, carry: u8) -> Result<(), Refusal>
     if index > text.len() {
         return Err(Refusal::WrongIndex);
     }
-    if carry > 5 {
+    if carry as usize >= HTML_CDATA_SIZE {
         return Err(Refusal::WrongCarry);
     }
     if has_blank_line(text) {

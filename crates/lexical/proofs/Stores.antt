@@ -4,7 +4,8 @@ use lib.Seq.{sets, length-sets, sets-eq}
 use borrow.Rule.Slice.PartMut.{put_mid, post_of, Post-is}
 use Rattle.lexical.specs.Buffer.{stored, Written}
 
-is-sets : (l : List ℕ) (i : ℕ) (bs : List ℕ) → stored l i bs ≡ sets l i bs
+-- bytes that are put in the place of others
+pub is-sets : (l : List ℕ) (i : ℕ) (bs : List ℕ) → stored l i bs ≡ sets l i bs
 unfolding stored
 is-sets l i [] = refl
 is-sets l i (x ∷ bs) = is-sets (set l i x) (suc i) bs

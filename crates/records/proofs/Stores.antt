@@ -1,22 +1,16 @@
 -- Laws of what a trace stores in a buffer: fields, the records that consist of them, and a record that is placed.
 use Rattle.std.proofs.Common.{◌≡◌, refl, sym, ◌∙◌, ap, true, false, List, [], ◌∷◌, ◌++◌, append_assoc, ℕ, suc, ◌+◌, ◌*◌, ◌≤◌, arith, leb, length, take, drop, set, drop-drop, le-leb}
 use Rattle.std.proofs.lemmas.List.{length-set}
-use lib.Seq.{sets, sets-eq}
+use lib.Seq.{sets-eq}
 use borrow.Rule.Slice.PartMut.{put_mid}
 use Rattle.lexical.specs.Buffer.{stored, Written}
-use Rattle.lexical.proofs.Stores.{single, second, stores, nothing-written, same}
+use Rattle.lexical.proofs.Stores.{is-sets, single, second, stores, nothing-written, same}
 use Rattle.rules.specs.Trace.{field, eventRecord, lastRecord, recordBytes}
 use Rattle.records.specs.Writing.{placed}
 use Rattle.records.proofs.Fields.{field-length}
 use Rattle.records.proofs.Records.{event-bytes, last-bytes}
 
 -- ---- fields
--- bytes that are put in the place of others
-is-sets : (l : List ℕ) (i : ℕ) (bs : List ℕ) → stored l i bs ≡ sets l i bs
-unfolding stored
-is-sets l i [] = refl
-is-sets l i (x ∷ bs) = is-sets (set l i x) (suc i) bs
-
 pub field-put : (l : List ℕ) (at w n : ℕ) {k : ℕ} {bs : List ℕ} → k ≡ w → at + w ≤ length l → bs ≡ field w n → Written l at (field w n) (put_mid at k l bs)
 field-put l at w n {k} e h is =
     let f = field w n in

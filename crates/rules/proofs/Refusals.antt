@@ -6,7 +6,7 @@ use Rattle.std.specs.Result.{IsErrAnd}
 use Rattle.rules.specs.Search.{choose}
 use Rattle.rules.specs.Refusal.{Check, check, refusal, outputRefusal, refusalNumber}
 use Rattle.rules.specs.declared.refusal.Refusal.{Refusal}
-use Rattle.rules.specs.declared.refusal.Refusal.TheVariants.{TooLong, WrongCount, WrongFlag, WrongIndex, WrongCarry, BlankLine, NoRoom, WrongKind, CutOff, NotEnded, NotNarrow}
+use Rattle.rules.specs.declared.refusal.Refusal.TheVariants.{TooLong, WrongCount, WrongFlag, WrongIndex, WrongCarry, BlankLine, NoRoom, WrongKind, CutOff, NotEnded, NotNarrow, WrongSpans}
 
 -- ---- the code's refusals
 pub refusal-positive : (r : Refusal) → refusalNumber r ≡ 0 → ⊥
@@ -21,6 +21,7 @@ refusal-positive WrongKind h = cc
 refusal-positive CutOff h = cc
 refusal-positive NotEnded h = cc
 refusal-positive NotNarrow h = cc
+refusal-positive WrongSpans h = cc
 
 -- what `?` passes on
 pub raised : {A : Type 0} (r : Result A Refusal) {e : Refusal} → IsErrAnd r (λ x. x ≡ e) → r ≡ Err e
@@ -78,6 +79,10 @@ output-short room output h = rw (lt-ltb room (length output) h)
 pub output-fits : (room : ℕ) (output : List ℕ) → length output ≤ room → outputRefusal 0 room output ≡ 0
 unfolding outputRefusal refusal
 output-fits room output h = rw (le-ltb room (length output) h)
+
+pub output-reads : (n room : ℕ) (output : List ℕ) → length output ≤ room → outputRefusal n room output ≡ n
+unfolding outputRefusal refusal
+output-reads n room output h = split (eqb n 0) (λ z. rw (eqb-true n 0 z, le-ltb room (length output) h) refl) (λ z. rw z refl)
 
 -- ---- an answer, or what a refusal makes of its number
 module _ {A : Type 0} (refused : ℕ → A) (answer : A) where

@@ -1,15 +1,16 @@
 -- Corners that the rows marked (P) in SCOPE leave out: each row refuses a definition that is a little wrong. Proved together by one computed fact.
-use Rattle.std.specs.Prelude.{ℕ, ◌+◌, ◌≡◌, refl, Bool, true, false, ◌&&◌, List, [], ◌∷◌, ◌++◌, eqb, length}
+use Rattle.std.specs.Prelude.{ℕ, ◌+◌, ◌≡◌, refl, Bool, true, false, ◌&&◌, not, List, [], ◌∷◌, ◌++◌, eqb, length}
 use Rattle.lexical.specs.Text.{bytes, limit}
 use Rattle.lexical.specs.Name.{all, sameBytes}
 use Rattle.rules.specs.Reading.{crate, standard}
 use Rattle.rules.specs.Refusal.{refusal, tooLong, inlineRefusal, blockRefusal, bulletinRefusal}
 use Rattle.rules.specs.Scan.{InlineAnswer, foundInline, noInline, refusedInline, inlineScan, found, BlockAnswer, foundBlock, noBlock, refusedBlock, blockScan}
-use Rattle.rules.specs.Withhold.{shown, Shown, shows, refusedShown, withhold, written}
+use Rattle.rules.specs.Withhold.{shown, Shown, shows, refusedShown, written}
 use Rattle.rules.specs.Output.{Wrote, wrote, refusedWrite}
+use Rattle.rules.specs.Spans.{foundSpans, Found, finds, refusedFind, find, areSpans, spansRefusal, besides, show, stretch, withhold}
 use Rattle.rules.specs.Filter.{filtered, filter}
 use Rattle.rules.specs.declared.Rules.{Rules}
-use Rattle.rules.specs.Rows.{sameInline, sameBlock, inlineRow, blockRow}
+use Rattle.rules.specs.Rows.{sameInline, sameBlock, inlineRow, blockRow, bulletin, noFlags}
 use Rattle.rules.specs.Computing.{computing}
 
 -- two answers of withholding are the same
@@ -106,14 +107,15 @@ refusals =
     ∷ sameBlock (blockScan crate (bytes "a") (3 ∷ []) 0) noBlock
     ∷ []
 
--- withholding: a line behind a block begins a paragraph; 7 comes last; what is written
+-- withholding: a line behind a block begins a paragraph; 7 comes last, of the list or of the buffer; what is written
 unfoldable pub outputs : List Bool
 outputs =
     sameBytes (shown crate (bytes "<!--\n-->\na<b>") (0 ∷ 0 ∷ 0 ∷ [])) (bytes "\na")
-    ∷ sameAnswer (withhold crate (bytes "a<b>c") (4 ∷ 4 ∷ []) 1) (refusedShown 2)
-    ∷ sameAnswer (withhold crate (bytes "a<b>c") (4 ∷ []) 1) (refusedShown 3)
-    ∷ sameAnswer (withhold crate (bytes "a<b>c") (3 ∷ []) 1) (refusedShown 7)
-    ∷ sameAnswer (withhold crate (bytes "a<b>c") (3 ∷ []) 2) (shows 2 1)
+    ∷ sameAnswer (withhold crate (bytes "a<b>c") (4 ∷ 4 ∷ []) 2 1) (refusedShown 2)
+    ∷ sameAnswer (withhold crate (bytes "a<b>c") (4 ∷ []) 2 1) (refusedShown 3)
+    ∷ sameAnswer (withhold crate (bytes "a<b>c") (3 ∷ []) 3 1) (refusedShown 7)
+    ∷ sameAnswer (withhold crate (bytes "a<b>c") (3 ∷ []) 2 2) (refusedShown 7)
+    ∷ sameAnswer (withhold crate (bytes "a<b>c") (3 ∷ []) 3 2) (shows 2 1)
     ∷ sameBytes (written 0 (bytes "ac") (bytes "xyz")) (bytes "acz")
     ∷ sameBytes (written 7 (bytes "ac") (bytes "xyz")) (bytes "xyz")
     ∷ []
@@ -181,7 +183,7 @@ standards =
     ∷ standardInline (bytes "<![CDATA[q]]>") 6 (refusedInline 5 6)
     -- withholding goes by this reading's own pieces
     ∷ sameBytes (shown standard (bytes "a <b c=d/e>\n<pre/>\n<i 1>") (0 ∷ 0 ∷ 0 ∷ [])) (bytes "a \n\n<i 1>")
-    ∷ sameAnswer (withhold standard (bytes "a<b c=d/e>") (0 ∷ []) 1) (shows 1 1)
+    ∷ sameAnswer (withhold standard (bytes "a<b c=d/e>") (0 ∷ []) 3 1) (shows 1 1)
     ∷ []
 
 -- SCOPE, Backslash before a tag: `<` behind an odd run of backslashes is text, in both readings
@@ -218,8 +220,53 @@ filteredBackslashes =
     ∷ filterRow (bytes "<div>\\<xmp>") (0 ∷ []) (bytes "<div>\\&lt;xmp>")
     ∷ []
 
-pub corners-hold : all (λ b. b) (texts ++ (blocks ++ (names ++ (closers ++ (refusals ++ (outputs ++ (filters ++ (standards ++ (backslashes crate ++ (backslashes standard ++ filteredBackslashes)))))))))) ≡ true
-unfolding computing texts blocks names closers refusals outputs filters standards backslashes filteredBackslashes
+-- SCOPE, Find first, show afterwards: two answers of finding are the same
+abbrev pub sameFound : Found → Found → Bool
+sameFound (finds n) (finds m) = eqb n m
+sameFound (finds n) (refusedFind k) = false
+sameFound (refusedFind k) (finds m) = false
+sameFound (refusedFind k) (refusedFind j) = eqb k j
+
+-- the spans of the added screen
+abbrev pub bars : List ℕ
+bars = 5 ∷ 15 ∷ 0 ∷ 17 ∷ 26 ∷ 1 ∷ []
+
+unfoldable pub spans : List Bool
+spans =
+    sameBytes (foundSpans crate bulletin noFlags) bars
+    ∷ sameFound (find crate bulletin noFlags 6) (finds 2)
+    ∷ sameFound (find crate bulletin noFlags 5) (refusedFind 7)
+    ∷ sameFound (find crate bulletin (0 ∷ []) 0) (refusedFind 2)
+    ∷ sameBytes (besides 0 bars bulletin) (bytes "door 9\n\n\nok")
+    ∷ sameWrote (show bulletin bars 11) (wrote 11)
+    ∷ sameWrote (show bulletin bars 10) (refusedWrite 7)
+    -- 12 comes before 7
+    ∷ sameWrote (show bulletin (5 ∷ 15 ∷ []) 0) (refusedWrite 12)
+    ∷ eqb (spansRefusal bulletin bars) 0
+    -- touching ones, one over the whole, none
+    ∷ areSpans 0 4 (0 ∷ 2 ∷ 1 ∷ 2 ∷ 4 ∷ 0 ∷ [])
+    ∷ areSpans 0 4 (0 ∷ 4 ∷ 0 ∷ [])
+    ∷ areSpans 0 0 []
+    -- not whole
+    ∷ not (areSpans 0 4 (0 ∷ 2 ∷ 1 ∷ 2 ∷ 4 ∷ []))
+    ∷ not (areSpans 0 4 (0 ∷ []))
+    -- out of order, overlapping
+    ∷ not (areSpans 0 4 (2 ∷ 4 ∷ 0 ∷ 0 ∷ 2 ∷ 0 ∷ []))
+    ∷ not (areSpans 0 4 (0 ∷ 3 ∷ 0 ∷ 2 ∷ 4 ∷ 0 ∷ []))
+    -- a stop that is not above the start, past the end, another kind
+    ∷ not (areSpans 0 4 (2 ∷ 2 ∷ 0 ∷ []))
+    ∷ not (areSpans 0 4 (2 ∷ 5 ∷ 0 ∷ []))
+    ∷ not (areSpans 0 4 (2 ∷ 4 ∷ 2 ∷ []))
+    -- stretches: before a span, after the last, no more; all of a bulletin; of spans that are refused none
+    ∷ sameBytes (stretch (bytes "abcd") (1 ∷ 2 ∷ 0 ∷ []) 0) (bytes "a")
+    ∷ sameBytes (stretch (bytes "abcd") (1 ∷ 2 ∷ 0 ∷ []) 1) (bytes "cd")
+    ∷ sameBytes (stretch (bytes "abcd") (1 ∷ 2 ∷ 0 ∷ []) 2) []
+    ∷ sameBytes (stretch (bytes "abcd") [] 0) (bytes "abcd")
+    ∷ sameBytes (stretch (bytes "abcd") (1 ∷ 2 ∷ []) 0) []
+    ∷ []
+
+pub corners-hold : all (λ b. b) (texts ++ (blocks ++ (names ++ (closers ++ (refusals ++ (outputs ++ (filters ++ (standards ++ (backslashes crate ++ (backslashes standard ++ (filteredBackslashes ++ spans))))))))))) ≡ true
+unfolding computing texts blocks names closers refusals outputs filters standards backslashes filteredBackslashes spans
 corners-hold = refl
 
 -- 1 comes before all others, from the first byte over the limit on

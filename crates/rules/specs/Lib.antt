@@ -12,6 +12,7 @@ pub mod Trace
 pub mod ReadBack
 pub mod Withhold
 pub mod Output
+pub mod Spans
 pub mod Filter
 pub mod Rows
 pub mod Changes

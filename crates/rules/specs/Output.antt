@@ -1,4 +1,4 @@
--- The answer of an entry that gives the length of what it writes, or a refusal: both traces, and the tag filter.
+-- The answer of an entry that gives the length of what it writes, or a refusal: both traces, the tag filter, and showing beside spans.
 use Rattle.std.specs.Prelude.{◌≡◌, ℕ, List, Result, Ok, Err, eqb, length}
 use Rattle.rules.specs.Search.{choose}
 use Rattle.rules.specs.Refusal.{refusalNumber}

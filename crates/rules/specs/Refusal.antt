@@ -6,7 +6,7 @@ use Rattle.lexical.specs.Line.{endsLine, lines, isLineStart}
 use Rattle.lexical.specs.Name.{all}
 use Rattle.rules.specs.Search.{choose, somewhere, past}
 use Rattle.rules.specs.declared.refusal.Refusal.{Refusal}
-use Rattle.rules.specs.declared.refusal.Refusal.TheVariants.{TooLong, WrongCount, WrongFlag, WrongIndex, WrongCarry, BlankLine, NoRoom, WrongKind, CutOff, NotEnded, NotNarrow}
+use Rattle.rules.specs.declared.refusal.Refusal.TheVariants.{TooLong, WrongCount, WrongFlag, WrongIndex, WrongCarry, BlankLine, NoRoom, WrongKind, CutOff, NotEnded, NotNarrow, WrongSpans}
 
 -- a check: where the test holds, the number is given
 pub data Check : Type 0 where
@@ -79,6 +79,7 @@ refusalNumber WrongKind = 8
 refusalNumber CutOff = 9
 refusalNumber NotEnded = 10
 refusalNumber NotNarrow = 11
+refusalNumber WrongSpans = 12
 
 -- what an answer is refused by, or 0
 abbrev pub refusalOf : {A : Type 0} → Result A Refusal → ℕ

@@ -6,7 +6,6 @@ use Rattle.rules.specs.Search.{choose}
 use Rattle.rules.specs.Inline.{Read, takes, lacks, readInline}
 use Rattle.rules.specs.Lines.{Line, linesOf}
 use Rattle.rules.specs.Block.{Extent, kindOf, extentOf, stopAfter}
-use Rattle.rules.specs.Refusal.{bulletinRefusal, outputRefusal}
 use Rattle.rules.specs.declared.Rules.{Rules}
 
 -- ---- what each line is
@@ -124,15 +123,6 @@ pub data Shown : Type 0 where
   shows : ℕ → ℕ → Shown
   refusedShown : ℕ → Shown
 
-unfoldable pub withholdRefusal : Rules → List ℕ → List ℕ → ℕ → ℕ
-withholdRefusal ρ text flags room = outputRefusal (bulletinRefusal text flags) room (shown ρ text flags)
-
--- 1, 2, 3, then 7; room is the length of the output buffer
-unfoldable pub withhold : Rules → List ℕ → List ℕ → ℕ → Shown
-withhold ρ text flags room =
-    choose (eqb (withholdRefusal ρ text flags room) 0) (λ _. shows (length (shown ρ text flags)) (count ρ text flags))
-    (λ _. refusedShown (withholdRefusal ρ text flags room))
-
--- the output buffer afterwards: what is shown and the old bytes past it, or on a refusal the old bytes
+-- a lent buffer afterwards: the output and the old entries past it, or on a refusal the old entries
 unfoldable pub written : ℕ → List ℕ → List ℕ → List ℕ
 written refusal output old = choose (eqb refusal 0) (λ _. output ++ drop (length output) old) (λ _. old)

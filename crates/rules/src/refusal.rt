@@ -29,6 +29,8 @@ pub enum Refusal {
     NotEnded = 10,
     // A field above 65,535, on the way to narrow.
     NotNarrow = 11,
+    // Spans that are not whole, out of order, overlapping, with a stop not above the start, past the end or of another kind.
+    WrongSpans = 12,
 }
 
 impl From<Refusal> for u8 {

@@ -1,11 +1,9 @@
 -- Inline reading of two texts that are alike but for a private body, from a byte before its opening on: both find raw HTML or neither does, and what is left of
 -- them corresponds. An opening or a closer holds no `<` behind its first byte, so it ends before the private opening or begins behind it.
 use Rattle.std.proofs.Common.{◌≡◌, refl, sym, ◌∙◌, ap, Bool, true, false, ◌&&◌, not, List, [], ◌∷◌, ◌++◌, ℕ, suc, ◌≤◌, arith, eqb, length, length-drop}
-use Rattle.std.proofs.Math.Bool.{and-false}
 use Rattle.std.proofs.lemmas.Bool.{and_parts}
 use borrow.Author.Tests.{not-true}
-use Rattle.lexical.specs.Text.{byte, bytes, first}
-use Rattle.lexical.specs.Byte.{isLetter}
+use Rattle.lexical.specs.Text.{byte, bytes}
 use Rattle.lexical.specs.Name.{all, cdataPrefix}
 use Rattle.lexical.proofs.Cases.{split}
 use Rattle.rules.specs.Search.{choose, begins, Left, left, nothing, throughFirst}
@@ -14,8 +12,8 @@ use Rattle.rules.specs.Inline.{comment, instruction, declaration, htmlTag, Prefi
 use Rattle.rules.specs.Private.{Form, closer, comment as Comment, instruction as Instruction, declaration as Declaration, cdata as Cdata}
 use Rattle.rules.specs.declared.Rules.{Rules}
 use Rattle.rules.proofs.Comment.{comment-is}
-use Rattle.runs.proofs.Alike.{AtMost, Alike, Pair, ahead, behind, Lefts, lefts, nothings, View, at-end, at-opening, at-byte, angleless, view, same-lefts, first-same, begins-same, drop-pair}
-use Rattle.runs.proofs.Tags.{choose-lefts, or-lefts, class-pair, open-lefts, close-lefts}
+use Rattle.runs.proofs.Alike.{AtMost, Alike, Pair, ahead, behind, Lefts, lefts, nothings, View, at-end, at-opening, at-byte, angleless, view, same-lefts, begins-same, drop-pair}
+use Rattle.runs.proofs.Tags.{choose-lefts, or-lefts, marked-lefts, open-lefts, close-lefts}
 
 -- ---- closers
 pub most-trans : (q s : List ℕ) (a : Left) → length s ≤ length q → AtMost s a → AtMost q a
@@ -66,18 +64,7 @@ module _ {w₁ w₂ q : List ℕ} (alike : Alike w₁ w₂ q) (x : ℕ) where
 
   declaration-lefts : {s t : List ℕ} → Pair w₁ w₂ q s t → Lefts w₁ w₂ q (declaration (x ∷ s)) (declaration (x ∷ t))
   unfolding declaration
-  declaration-lefts r = by-view (view r)
-    where
-      by-view : {s t : List ℕ} → View w₁ w₂ q s t → Lefts w₁ w₂ q (declaration (x ∷ s)) (declaration (x ∷ t))
-      by-view at-end = rw (and-false (eqb x (byte "<"))) nothings
-      by-view at-opening = rw (and-false (eqb x (byte "<"))) nothings
-      by-view (at-byte y {s} {t} k) =
-          let a = (eqb x (byte "<") && (eqb y (byte "!") && true)) && isLetter (first s) in
-          let b = (eqb x (byte "<") && (eqb y (byte "!") && true)) && isLetter (first t) in
-          let e : a ≡ b = ap (λ (z : ℕ). (eqb x (byte "<") && (eqb y (byte "!") && true)) && isLetter z) (first-same k) in
-          choose-lefts a b e
-          (λ h. through-lefts alike (Declaration (byte "A") refl) (class-pair isLetter refl (and_parts (eqb x (byte "<") && (eqb y (byte "!") && true)) (isLetter (first s)) h).1 k))
-          (λ h. nothings)
+  declaration-lefts r = marked-lefts x (byte "!") refl (throughFirst (bytes ">")) (λ s t k. through-lefts alike (Declaration (byte "A") refl) k) r
 
   tag-lefts : (ρ : Rules) {s t : List ℕ} → Pair w₁ w₂ q s t → Lefts w₁ w₂ q (htmlTag ρ (x ∷ s)) (htmlTag ρ (x ∷ t))
   unfolding htmlTag

@@ -16,3 +16,4 @@ pub mod Covered
 pub mod LineRuns
 pub mod TwoRuns
 pub mod Ordered
+pub mod Spans

@@ -41,6 +41,11 @@ module _ {lo hi : ℕ} {p : Piece} {ps : List Piece} where
   pub first-to : Ordered lo hi (p ∷ ps) → p.stop ≤ hi
   first-to o = bounds (others o)
 
+-- each has a byte
+pub fewer : {lo hi : ℕ} {ps : List Piece} → Ordered lo hi ps → lo + length ps ≤ hi
+fewer (none h) = omega arith
+fewer (one-more a b o) = let h = fewer o in omega arith
+
 -- between wider bounds
 pub widen : {lo hi low high : ℕ} {ps : List Piece} → low ≤ lo → hi ≤ high → Ordered lo hi ps → Ordered low high ps
 widen {low = low} {high} a b (none h) = let w : low ≤ high = omega arith in none w

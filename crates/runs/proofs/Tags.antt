@@ -8,7 +8,7 @@ use Rattle.lexical.specs.Text.{byte, bytes, first}
 use Rattle.lexical.specs.Byte.{isLetter, isWhitespace, isTagNameByte, isAttributeNameByte, isQuote, isValueExcluded}
 use Rattle.lexical.specs.Name.{all}
 use Rattle.lexical.proofs.Cases.{split, clash}
-use Rattle.rules.specs.Search.{choose, begins, past, Left, orElse, exactly}
+use Rattle.rules.specs.Search.{choose, begins, past, Left, nothing, orElse, exactly}
 use Rattle.rules.specs.Tag.{Grammar, tagEnd, pastQuote, specification, startsName, isValueByte, pastUnquoted, value, values, attribute, attributes, openTag, closingTag}
 use Rattle.rules.proofs.Past.{past-length}
 use Rattle.runs.proofs.Alike.{Alike, Pair, ahead, behind, Lefts, lefts, nothings, View, at-end, at-opening, at-byte, angleless, view, first-same, past-pair, begins-same, drop-pair}
@@ -158,17 +158,24 @@ open-lefts alike g x {s} {t} r =
     attributes-lefts alike g (length (x ∷ s)) (length (x ∷ t)) (omega (arith, past-length isTagNameByte (drop 1 s), length-drop 1 s)) (omega (arith, past-length isTagNameByte (drop 1 t), length-drop 1 t)) (past-pair isTagNameByte refl (class-pair isLetter refl (and_parts (eqb x (byte "<") && true) (isLetter (first s)) h).1 r)))
     (λ h. nothings)
 
+-- `<`, a mark and a letter, and what is read behind the letter
+abbrev marked : ℕ → (List ℕ → Left) → List ℕ → Left
+marked mark f s = choose (begins (byte "<" ∷ mark ∷ []) s && isLetter (first (drop 2 s))) (λ _. f (drop 3 s)) (λ _. nothing)
+
+pub marked-lefts : {w₁ w₂ q : List ℕ} (x mark : ℕ) → eqb (byte "<") mark ≡ false → (f : List ℕ → Left)
+    → ((s t : List ℕ) → Pair w₁ w₂ q s t → Lefts w₁ w₂ q (f s) (f t)) → {s t : List ℕ} → Pair w₁ w₂ q s t → Lefts w₁ w₂ q (marked mark f (x ∷ s)) (marked mark f (x ∷ t))
+marked-lefts {w₁} {w₂} {q} x mark e f l r = by-view (view r)
+  where
+    by-view : {s t : List ℕ} → View w₁ w₂ q s t → Lefts w₁ w₂ q (marked mark f (x ∷ s)) (marked mark f (x ∷ t))
+    by-view at-end = rw (and-false (eqb x (byte "<"))) nothings
+    by-view at-opening = rw (e, and-false (eqb x (byte "<"))) nothings
+    by-view (at-byte y {s} {t} k) =
+        let marks : Bool = eqb x (byte "<") && (eqb y mark && true) in
+        choose-lefts (marks && isLetter (first s)) (marks && isLetter (first t)) (ap (λ (z : ℕ). marks && isLetter z) (first-same k))
+        (λ h. l _ _ (class-pair isLetter refl (and_parts marks (isLetter (first s)) h).1 k)) (λ h. nothings)
+
 pub close-lefts : {w₁ w₂ q : List ℕ} (x : ℕ) {s t : List ℕ} → Pair w₁ w₂ q s t → Lefts w₁ w₂ q (closingTag (x ∷ s)) (closingTag (x ∷ t))
 unfolding closingTag all
-close-lefts {w₁} {w₂} {q} x r = by-view (view r)
-  where
-    by-view : {s t : List ℕ} → View w₁ w₂ q s t → Lefts w₁ w₂ q (closingTag (x ∷ s)) (closingTag (x ∷ t))
-    by-view at-end = rw (and-false (eqb x (byte "<"))) nothings
-    by-view at-opening = rw (and-false (eqb x (byte "<"))) nothings
-    by-view (at-byte y {s} {t} k) =
-        let a = (eqb x (byte "<") && (eqb y (byte "/") && true)) && isLetter (first s) in
-        let b = (eqb x (byte "<") && (eqb y (byte "/") && true)) && isLetter (first t) in
-        let e : a ≡ b = ap (λ (z : ℕ). (eqb x (byte "<") && (eqb y (byte "/") && true)) && isLetter z) (first-same k) in
-        choose-lefts a b e
-        (λ h. exactly-lefts (bytes ">") refl (past-pair isWhitespace refl (past-pair isTagNameByte refl (class-pair isLetter refl (and_parts (eqb x (byte "<") && (eqb y (byte "/") && true)) (isLetter (first s)) h).1 k))))
-        (λ h. nothings)
+close-lefts x r =
+    marked-lefts x (byte "/") refl (λ s. exactly (bytes ">") (past isWhitespace (past isTagNameByte s)))
+    (λ s t k. exactly-lefts (bytes ">") refl (past-pair isWhitespace refl (past-pair isTagNameByte refl k))) r

@@ -8,11 +8,6 @@ use Rattle.walk.specs.declared.bulletin.Bulletin.{Bulletin}
 use Rattle.walk.specs.declared.pieces.Piece.{Piece as Taken}
 use Rattle.walk.proofs.Places.{line-remaining}
 
--- each piece has a byte
-fewer : (lo hi : ℕ) (ps : List Piece) → Ordered lo hi ps → lo + length ps ≤ hi
-fewer lo hi [] o = let b = bounds o in omega arith
-fewer lo hi (p ∷ ps) o = let h = fewer p.stop hi ps (others o) in let a = first-from o in let b = first-some o in omega arith
-
 abbrev pub allPieces : Bulletin → List Piece
 allPieces b = pieces b.rules b.text.now b.flags.now
 
@@ -33,7 +28,7 @@ module _ (b : Bulletin) where
       counting-on = record { counted = let e : length ps ≡ suc (length qs) = ap length takes.is in omega (arith, e, counting.counted) }
 
       pub number-bound : number + 1 ≤ length b.text.now
-      number-bound = omega (arith, counting-on.counted, fewer 0 (length b.text.now) (allPieces b) (pieces-ordered b.rules b.text.now b.flags.now))
+      number-bound = omega (arith, counting-on.counted, fewer (pieces-ordered b.rules b.text.now b.flags.now))
 
     pub number-is : ps ≡ [] → number ≡ length (allPieces b)
     number-is over = let e : length ps ≡ 0 = ap length over in omega (arith, e, counting.counted)
