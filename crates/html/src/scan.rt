@@ -7,10 +7,13 @@ ghost use Rattle.html.specs.Answer.{inlineOf, inlineScanOf};
 
 use crate::tokenizer::{Inline, StateName, run};
 use lexical::byte::{is_line_ending_byte, peek};
-use lexical::constant::{HTML_CDATA_SIZE, is_over_limit};
+use lexical::constant::is_over_limit;
 use lexical::line::{ends_line, line_end, space_or_tab_end};
 use rules::Rules;
 use rules::refusal::Refusal;
+
+// A carry counts letters of the CDATA prefix, and never all of them.
+const MOST_CARRY: u8 = 5;
 
 // Whether a line ends at an index and only spaces, tabs or no bytes stand before the next line ending.
 fn blank_follows(text: &[u8], index: usize) -> bool
@@ -47,7 +50,7 @@ fn check_inline(text: &[u8], index: usize, carry: u8) -> Result<(), Refusal>
     if index > text.len() {
         return Err(Refusal::WrongIndex);
     }
-    if carry as usize >= HTML_CDATA_SIZE {
+    if carry > MOST_CARRY {
         return Err(Refusal::WrongCarry);
     }
     if has_blank_line(text) {
