@@ -40,7 +40,7 @@ spans-length [] = refl
 spans-length (p ∷ ps) = omega (arith, spans-length ps)
 
 -- ---- any spans, as pieces
-abbrev asPieces : List ℕ → List Piece
+abbrev pub asPieces : List ℕ → List Piece
 asPieces [] = []
 asPieces (a ∷ []) = []
 asPieces (a ∷ b ∷ []) = []
@@ -53,7 +53,7 @@ spanned-as i (a ∷ []) = refl
 spanned-as i (a ∷ b ∷ []) = refl
 spanned-as i (a ∷ b ∷ k ∷ s) = ap (λ (t : Bool). (leb a i && ltb i b) || t) (spanned-as i s)
 
-besides-as : (i : ℕ) (spans s : List ℕ) → besides i spans s ≡ outside i (asPieces spans) s
+pub besides-as : (i : ℕ) (spans s : List ℕ) → besides i spans s ≡ outside i (asPieces spans) s
 unfolding besides outside
 besides-as i spans [] = refl
 besides-as i spans (x ∷ s) = rw (spanned-as i spans, besides-as (suc i) spans s)
@@ -75,7 +75,7 @@ are-spans from end (a ∷ b ∷ k ∷ s) l h =
     let c = leb-true b end (and_parts (leb b end) (leb k 1) z.0).0 in
     span a b k (leb-true from a y.0) (ltb-true a b y.1) c (are-spans b end s c z.1)
 
-as-ordered : {from end : ℕ} {s : List ℕ} → Spans from end s → Ordered from end (asPieces s)
+pub as-ordered : {from end : ℕ} {s : List ℕ} → Spans from end s → Ordered from end (asPieces s)
 as-ordered (no-more l) = none l
 as-ordered (span a b k h l m w) = one-more h l (as-ordered w)
 

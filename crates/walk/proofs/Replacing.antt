@@ -1,15 +1,13 @@
 -- Outputs that leave the bytes outside pieces as they are and have something in place of each piece: between two pieces the bytes are copied, and behind the last
 -- piece the rest is. The pieces that remain stand in order, so such an output has what was made up to a place in front, and behind it what the pieces that remain
--- make. Whatever comes in place of a piece, this is the same argument: it is given once, over any output.
+-- make. Whatever the pieces are and whatever comes in place of one, this is the same argument: it is given once, over any output and any pieces in order.
 use Rattle.std.proofs.Common.{◌≡◌, refl, sym, ◌∙◌, ap, subst, List, [], ◌∷◌, ◌++◌, append_assoc, ℕ, ◌+◌, ◌-◌, ◌<◌, ◌≤◌, arith, length, take, drop, length-append, length-drop, length-take-le, take_all}
 use Rattle.lexical.specs.Buffer.{stored, Written}
 use Rattle.lexical.proofs.Stores.{stores, from-front, same, written-as, written-whole, then}
-use Rattle.rules.specs.Withhold.{Piece, piece, written}
-use Rattle.runs.proofs.Ordered.{Ordered, bounds, first-from, first-some, first-to, others, pieces-ordered}
+use Rattle.rules.specs.Withhold.{Piece, piece, outside, written}
+use Rattle.runs.proofs.Ordered.{Ordered, bounds, first-from, first-some, first-to, others, outside-none, outside-next}
 use Rattle.walk.specs.Remaining.{isBlock, Takes}
-use Rattle.walk.specs.declared.bulletin.Bulletin.{Bulletin}
 use Rattle.walk.specs.declared.pieces.Piece.{Piece as Taken}
-use Rattle.walk.proofs.Walk.{allPieces}
 
 -- the bytes between two indices
 abbrev pub between : List ℕ → ℕ → ℕ → List ℕ
@@ -29,21 +27,28 @@ pub record Replacing (text : List ℕ) : Type 0 where
   pub by-piece : (i : ℕ) (p : Piece) (ps : List Piece) → Ordered i (length text) (p ∷ ps) → ahead i (p ∷ ps) ≡ between text i p.start ++ (in-place (told p) ++ ahead p.stop ps)
   pub by-none : (i : ℕ) → ahead i [] ≡ drop i text
 
-module _ (b : Bulletin) (r : Replacing b.text.now) where
-  abbrev text : List ℕ
-  text = b.text.now
+-- withholding has nothing in place of a piece
+abbrev pub withholding : (text : List ℕ) → Replacing text
+withholding text =
+    record {
+      ahead = λ i ps. outside i ps (drop i text);
+      in-place = λ p. [];
+      by-piece = λ i p ps o. outside-next text i (length text) p ps o (omega arith);
+      by-none = λ i. outside-none i (drop i text);
+    }
 
+module _ {text : List ℕ} (all : List Piece) (r : Replacing text) where
   abbrev whole : List ℕ
-  whole = r.ahead 0 (allPieces b)
+  whole = r.ahead 0 all
 
   -- ---- the length: what is made up to an index is size bytes long
   pub record Walking (ps : List Piece) (from size : ℕ) : Type 0 where
     pub ordered : Ordered from (length text) ps
     pub sum : size + length (r.ahead from ps) ≡ length whole
 
-  pub walking-start : {ps : List Piece} → ps ≡ allPieces b → Walking ps 0 0
-  walking-start e =
-      record { ordered = subst (Ordered 0 (length text)) (sym e) (pieces-ordered b.rules text b.flags.now); sum = let l = ap (λ qs. length (r.ahead 0 qs)) e in omega (arith, l) }
+  pub walking-start : Ordered 0 (length text) all → {ps : List Piece} → ps ≡ all → Walking ps 0 0
+  walking-start o e =
+      record { ordered = subst (Ordered 0 (length text)) (sym e) o; sum = let l = ap (λ qs. length (r.ahead 0 qs)) e in omega (arith, l) }
 
   module _ {ps : List Piece} {from size : ℕ} (walking : Walking ps from size) where
     pub within : from ≤ length text
@@ -91,8 +96,8 @@ module _ (b : Bulletin) (r : Replacing b.text.now) where
       pub same-length : length out ≡ length old
       pub bytes : stored out size (r.ahead from ps) ≡ stored old 0 whole
 
-    pub showing-start : {ps : List Piece} → ps ≡ allPieces b → Showing old ps 0 0
-    showing-start e = record { walking = walking-start e; same-length = refl; bytes = ap (λ qs. stored old 0 (r.ahead 0 qs)) e }
+    pub showing-start : Ordered 0 (length text) all → {ps : List Piece} → ps ≡ all → Showing old ps 0 0
+    showing-start o e = record { walking = walking-start o e; same-length = refl; bytes = ap (λ qs. stored old 0 (r.ahead 0 qs)) e }
 
     module _ (room : length whole ≤ length old) {out : List ℕ} {ps : List Piece} {from size : ℕ} (showing : Showing out ps from size) where
       -- what fits is written whole

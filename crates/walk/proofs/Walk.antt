@@ -2,7 +2,7 @@
 -- there are no more of them than bytes.
 use Rattle.std.proofs.Common.{◌≡◌, ap, List, [], ◌∷◌, ℕ, suc, ◌+◌, ◌≤◌, arith, length}
 use Rattle.rules.specs.Withhold.{Piece, pieces}
-use Rattle.runs.proofs.Ordered.{Ordered, bounds, first-from, first-some, others, pieces-ordered}
+use Rattle.runs.proofs.Ordered.{Ordered, fewer, pieces-ordered}
 use Rattle.walk.specs.Remaining.{fromLine, atLine, fromPlace, Takes}
 use Rattle.walk.specs.declared.bulletin.Bulletin.{Bulletin}
 use Rattle.walk.specs.declared.pieces.Piece.{Piece as Taken}
@@ -10,6 +10,9 @@ use Rattle.walk.proofs.Places.{line-remaining}
 
 abbrev pub allPieces : Bulletin → List Piece
 allPieces b = pieces b.rules b.text.now b.flags.now
+
+pub all-ordered : (b : Bulletin) → Ordered 0 (length b.text.now) (allPieces b)
+all-ordered b = pieces-ordered b.rules b.text.now b.flags.now
 
 module _ (b : Bulletin) where
   pub from-start : fromPlace b (atLine 0 0) ≡ allPieces b
@@ -28,7 +31,7 @@ module _ (b : Bulletin) where
       counting-on = record { counted = let e : length ps ≡ suc (length qs) = ap length takes.is in omega (arith, e, counting.counted) }
 
       pub number-bound : number + 1 ≤ length b.text.now
-      number-bound = omega (arith, counting-on.counted, fewer (pieces-ordered b.rules b.text.now b.flags.now))
+      number-bound = omega (arith, counting-on.counted, fewer (all-ordered b))
 
     pub number-is : ps ≡ [] → number ≡ length (allPieces b)
     number-is over = let e : length ps ≡ 0 = ap length over in omega (arith, e, counting.counted)
