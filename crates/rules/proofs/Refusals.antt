@@ -1,10 +1,11 @@
 -- Laws of refusals: down the table, the first check that applies is given.
-use Rattle.std.proofs.Common.{◌≡◌, refl, ap, Bool, true, false, ◌&&◌, not, List, [], ◌∷◌, ◌++◌, ℕ, ◌<◌, ◌≤◌, eqb, length, eq-eqb, eqb-true, ne_eqb, lt-ltb, le-ltb, Result, Ok, Err}
+use Rattle.std.proofs.Common.{◌≡◌, refl, sym, ◌∙◌, ap, Bool, true, false, ◌&&◌, not, List, [], ◌∷◌, ◌++◌, ℕ, ◌<◌, ◌≤◌, eqb, length, eq-eqb, eqb-true, ne_eqb, lt-ltb, le-ltb, ltb-false, Result, Ok, Err}
 use Rattle.std.proofs.lemmas.Bool.{and_parts}
+use Rattle.lexical.specs.Text.{limit}
 use Rattle.lexical.proofs.Cases.{split, clash}
 use Rattle.std.specs.Result.{IsErrAnd}
 use Rattle.rules.specs.Search.{choose}
-use Rattle.rules.specs.Refusal.{Check, check, refusal, outputRefusal, refusalNumber}
+use Rattle.rules.specs.Refusal.{Check, check, refusal, bulletinRefusal, outputRefusal, refusalNumber}
 use Rattle.rules.specs.declared.refusal.Refusal.{Refusal}
 use Rattle.rules.specs.declared.refusal.Refusal.TheVariants.{TooLong, WrongCount, WrongFlag, WrongIndex, WrongCarry, BlankLine, NoRoom, WrongKind, CutOff, NotEnded, NotNarrow, WrongSpans}
 
@@ -67,6 +68,11 @@ not-met [] ds false n k e h = refl
 not-met (check true m ∷ cs) ds b n k e h = clash (not (eqb m 0)) (and_parts (not (eqb m 0)) (numbered cs) k).0 (ap not (eq-eqb m 0 h))
 not-met (check false m ∷ cs) ds b n k e h = not-met cs ds b n (and_parts (not (eqb m 0)) (numbered cs) k).1 e h
 
+-- a bulletin that is not refused is within the limit
+pub within-limit : (text flags : List ℕ) → bulletinRefusal text flags ≡ 0 → length text ≤ limit
+unfolding bulletinRefusal
+within-limit text flags e = ltb-false limit (length text) (not-met [] _ _ 1 refl refl e)
+
 -- ---- an entry that writes: the refusal of what it reads comes first; then the buffer is too short, or the output fits
 pub output-first : (n room : ℕ) (output : List ℕ) → (n ≡ 0 → ⊥) → outputRefusal n room output ≡ n
 unfolding outputRefusal refusal
@@ -79,6 +85,9 @@ output-short room output h = rw (lt-ltb room (length output) h)
 pub output-fits : (room : ℕ) (output : List ℕ) → length output ≤ room → outputRefusal 0 room output ≡ 0
 unfolding outputRefusal refusal
 output-fits room output h = rw (le-ltb room (length output) h)
+
+pub output-passed : (n room : ℕ) (output : List ℕ) → outputRefusal n room output ≡ 0 → n ≡ 0
+output-passed n room output z = split (eqb n 0) (λ h. eqb-true n 0 h) (λ h. sym (output-first n room output (λ s. clash (eqb n 0) (eq-eqb n 0 s) h)) ∙ z)
 
 pub output-reads : (n room : ℕ) (output : List ℕ) → length output ≤ room → outputRefusal n room output ≡ n
 unfolding outputRefusal refusal

@@ -1,6 +1,6 @@
 -- Spans are pieces by their numbers. Where they are not refused they stand in order, so the laws of pieces in order hold of them: what is shown is the bytes up to
 -- the first, and then what the others leave of the bytes from its stop on.
-use Rattle.std.proofs.Common.{◌≡◌, refl, sym, ◌∙◌, ap, Bool, true, false, ◌&&◌, ◌||◌, not, List, [], ◌∷◌, ◌++◌, append-nil, ℕ, zero, suc, ◌+◌, ◌-◌, ◌*◌, ◌<◌, ◌≤◌, arith, eqb, leb, ltb, length, take, drop, length-append, length-drop, length-take-le, take_all, le-leb, lt-ltb, leb-true, ltb-true, eqb-true}
+use Rattle.std.proofs.Common.{◌≡◌, refl, sym, ◌∙◌, ap, Bool, true, false, ◌&&◌, ◌||◌, not, List, [], ◌∷◌, ◌++◌, append-nil, ℕ, zero, suc, ◌+◌, ◌-◌, ◌*◌, ◌<◌, ◌≤◌, arith, eqb, leb, ltb, length, take, drop, length-append, length-drop, length-take-le, take_all, le-leb, le-ltb, lt-ltb, leb-true, ltb-true, eqb-true}
 use Rattle.std.proofs.lemmas.Bool.{and_parts}
 use Rattle.lexical.specs.Text.{limit}
 use Rattle.lexical.proofs.Cases.{split, clash}
@@ -10,7 +10,7 @@ use Rattle.rules.specs.Withhold.{Which, inline, block, Piece, piece, pieces, isW
 use Rattle.rules.specs.Spans.{sortOf, spansOf, foundSpans, finds, find, findRefusal, areSpans, isSpanned, besides, spansRefusal, showRefusal, show, part, partOf, stretchPart, partBytes, stretch, withholdRefusal, withhold, spanBytes, joined, ShowsSpans, thenShow, FindThenShow}
 use Rattle.rules.specs.Output.{wrote, refusedWrite, writing}
 use Rattle.rules.specs.declared.Rules.{Rules}
-use Rattle.rules.proofs.Refusals.{not-met, output-first, output-reads}
+use Rattle.rules.proofs.Refusals.{not-met, within-limit, output-first, output-passed, output-reads}
 use Rattle.runs.proofs.Ordered.{Ordered, none, one-more, bounds, fewer, outside-next, outside-none, pieces-ordered}
 
 -- ---- the spans of pieces
@@ -194,21 +194,14 @@ module _ (ρ : Rules) (text flags : List ℕ) where
   unfolding count
   found-most = omega (arith, found-length, fewer (pieces-ordered ρ text flags))
 
-  -- what is read is within the limit
-  not-long : bulletinRefusal text flags ≡ 0 → ltb limit (length text) ≡ false
-  unfolding bulletinRefusal
-  not-long h = not-met [] _ (ltb limit (length text)) 1 refl refl h
-
   shows-found : bulletinRefusal text flags ≡ 0 → spansRefusal text (foundSpans ρ text flags) ≡ 0
   unfolding spansRefusal refusal
-  shows-found h = rw (not-long h, found-ordered) refl
+  shows-found h = rw (le-ltb limit (length text) (within-limit text flags h), found-ordered) refl
 
   -- what find takes is read
   taken : (list : ℕ) → findRefusal ρ text flags list ≡ 0 → bulletinRefusal text flags ≡ 0
   unfolding findRefusal
-  taken list z =
-      split (eqb (bulletinRefusal text flags) 0) (λ h. eqb-true (bulletinRefusal text flags) 0 h)
-      (λ h. sym (output-first (bulletinRefusal text flags) list (foundSpans ρ text flags) (λ s. clash (eqb (bulletinRefusal text flags) 0) (ap (λ t. eqb t 0) s) h)) ∙ z)
+  taken list z = output-passed (bulletinRefusal text flags) list (foundSpans ρ text flags) z
 
   pub same-refusal : (list room : ℕ) → findRefusal ρ text flags list ≡ 0 → showRefusal text (foundSpans ρ text flags) room ≡ withholdRefusal ρ text flags list room
   unfolding showRefusal withholdRefusal

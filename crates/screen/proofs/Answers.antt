@@ -1,43 +1,173 @@
--- Laws of the answer: a refusal of what is read, no room, or what is shown.
-use Rattle.std.proofs.Common.{◌≡◌, refl, sym, ◌∙◌, ap, true, false, List, ℕ, leb, length, ne_eqb, leb-true, leb-false}
-use Rattle.std.specs.Prelude.{Result, Ok, Err}
+-- Laws of the answers: a refusal of what is read, no room in the list or in the buffer, or what is found and shown. Showing beside what was found is not refused, since
+-- there is room.
+use Rattle.std.proofs.Common.{◌≡◌, refl, sym, ◌∙◌, ap, Bool, true, false, ◌&&◌, List, ℕ, ◌*◌, ◌≤◌, arith, leb, length, take, drop, length-append, ne_eqb, le-leb, leb-true, leb-false, Result, Ok, Err}
+use Rattle.std.proofs.Math.Bool.{and-true}
+use Rattle.std.proofs.lemmas.Bool.{and_parts}
 use Rattle.std.specs.Result.{IsErrAnd}
-use Rattle.rules.specs.Refusal.{bulletinRefusal, outputRefusal, refusalNumber}
-use Rattle.rules.specs.Withhold.{shown, count, shows, withhold, withholdRefusal, written}
+use lib.Seq.{take-append_seam}
+use Rattle.lexical.proofs.Cases.{split, clash}
+use Rattle.rules.specs.Refusal.{bulletinRefusal, refusalNumber}
+use Rattle.rules.specs.Withhold.{shown, count, shows, written}
+use Rattle.rules.specs.Output.{Wrote, wrote, refusedWrite, writing}
+use Rattle.rules.specs.Spans.{foundSpans, finds, find, findRefusal, besides, show, showRefusal, withhold, withholdRefusal}
 use Rattle.rules.specs.declared.Rules.{Rules}
 use Rattle.rules.specs.declared.refusal.Refusal.{Refusal}
 use Rattle.rules.specs.declared.refusal.Refusal.TheVariants.{NoRoom}
 use Rattle.rules.proofs.Refusals.{refusal-positive, output-first, output-short, output-fits, raised}
-use Rattle.screen.specs.Answer.{shownOf}
+use Rattle.runs.proofs.Spans.{beside-found, found-length, found-most, same-refusal}
+use Rattle.screen.specs.Answer.{foundOf, shownOf}
 use Rattle.screen.specs.declared.withhold.Withheld.{Withheld}
+use Rattle.screen.proofs.Finding.{shown-length}
 
-module _ (ρ : Rules) (text flags old : List ℕ) where
+-- of an answer that writes
+abbrev isWrote : Wrote → Bool
+isWrote (wrote n) = true
+isWrote (refusedWrite r) = false
+
+abbrev lengthOf : Wrote → ℕ
+lengthOf (wrote n) = n
+lengthOf (refusedWrite r) = 0
+
+-- the entries of a lent buffer, by the refusal
+module _ (n : ℕ) (output old : List ℕ) where
+  unwritten : (r : Refusal) → n ≡ refusalNumber r → old ≡ written n output old
+  unfolding written
+  unwritten r e = rw (e, ne_eqb (refusalNumber r) 0 (refusal-positive r)) refl
+
+  all-written : n ≡ 0 → {new : List ℕ} → new ≡ written 0 output old → new ≡ written n output old
+  all-written e w = rw e w
+
+module _ (ρ : Rules) (text flags : List ℕ) where
+  abbrev spans : List ℕ
+  spans = foundSpans ρ text flags
+
   abbrev output : List ℕ
   output = shown ρ text flags
 
-  pub record Answered (r : Result Withheld Refusal) (new : List ℕ) : Type 0 where
-    pub answer : shownOf r ≡ withhold ρ text flags (length old)
-    pub buffer : new ≡ written (withholdRefusal ρ text flags (length old)) output old
+  -- ---- the refusals, where lists and buffers of these lengths are lent
+  module _ (list room : ℕ) where
+    find-reads : (r : Refusal) → refusalNumber r ≡ bulletinRefusal text flags → findRefusal ρ text flags list ≡ refusalNumber r
+    unfolding findRefusal
+    find-reads r e = rw (← e) (output-first (refusalNumber r) list spans (refusal-positive r))
 
-  by-table : (n : ℕ) → bulletinRefusal text flags ≡ n → withholdRefusal ρ text flags (length old) ≡ outputRefusal n (length old) output
-  unfolding withholdRefusal
-  by-table n e = ap (λ t. outputRefusal t (length old) output) e
+    withhold-reads : (r : Refusal) → refusalNumber r ≡ bulletinRefusal text flags → withholdRefusal ρ text flags list room ≡ refusalNumber r
+    unfolding withholdRefusal
+    withhold-reads r e = rw (find-reads r e) (output-first (refusalNumber r) room output (refusal-positive r))
 
-  refused : (r : Refusal) → withholdRefusal ρ text flags (length old) ≡ refusalNumber r → Answered (Err r) old
-  unfolding withhold written
-  refused r e = let t = ne_eqb (refusalNumber r) 0 (refusal-positive r) in record { answer = rw (e, t) refl; buffer = rw (e, t) refl }
+    module _ (z : 0 ≡ bulletinRefusal text flags) where
+      find-short : leb (length spans) list ≡ false → findRefusal ρ text flags list ≡ 7
+      unfolding findRefusal
+      find-short h = rw (← z) (output-short list spans (leb-false (length spans) list h))
 
-  -- what was read is refused, and the answer passes that on
-  pub refused-reads : (r : Result Withheld Refusal) (e : Refusal) → IsErrAnd r (λ x. x ≡ e) → refusalNumber e ≡ bulletinRefusal text flags → Answered r old
-  refused-reads r e h k = rw (raised r h) (refused e (by-table (refusalNumber e) (sym k) ∙ output-first (refusalNumber e) (length old) output (refusal-positive e)))
+      find-fits : leb (length spans) list ≡ true → findRefusal ρ text flags list ≡ 0
+      unfolding findRefusal
+      find-fits h = rw (← z) (output-fits list spans (leb-true (length spans) list h))
 
-  module _ (z : bulletinRefusal text flags ≡ 0) where
-    pub refused-room : leb (length output) (length old) ≡ false → Answered (Err NoRoom) old
-    refused-room h = refused NoRoom (by-table 0 z ∙ output-short (length old) output (leb-false (length output) (length old) h))
+      withhold-short : (leb (length spans) list && leb (length output) room) ≡ false → withholdRefusal ρ text flags list room ≡ 7
+      unfolding withholdRefusal
+      withhold-short h =
+          split (leb (length spans) list)
+          (λ t. rw (find-fits t) (output-short room output (leb-false (length output) room (ap (λ b. b && leb (length output) room) (sym t) ∙ h))))
+          (λ t. rw (find-short t) (output-first 7 room output (refusal-positive NoRoom)))
 
-    pub shown-all : leb (length output) (length old) ≡ true → (w : Withheld) (new : List ℕ) → w.length ≡ length output → w.pieces ≡ count ρ text flags → new ≡ written 0 output old
-        → Answered (Ok w) new
+      withhold-fits : (leb (length spans) list && leb (length output) room) ≡ true → withholdRefusal ρ text flags list room ≡ 0
+      unfolding withholdRefusal
+      withhold-fits h =
+          let both = and_parts (leb (length spans) list) (leb (length output) room) h in
+          rw (find-fits both.0) (output-fits room output (leb-true (length output) room both.1))
+
+  -- ---- finding, into a list
+  module _ (old : List ℕ) where
+    pub record FindAnswered (r : Result ℕ Refusal) (new : List ℕ) : Type 0 where
+      pub answer : foundOf r ≡ find ρ text flags (length old)
+      pub list : new ≡ written (findRefusal ρ text flags (length old)) spans old
+
+    find-refused : (r : Refusal) → findRefusal ρ text flags (length old) ≡ refusalNumber r → FindAnswered (Err r) old
+    unfolding find
+    find-refused r e = record { answer = rw (e, ne_eqb (refusalNumber r) 0 (refusal-positive r)) refl; list = unwritten _ spans old r e }
+
+    -- what was read is refused, and the answer passes that on
+    pub found-refused-reads : (r : Result ℕ Refusal) (e : Refusal) → IsErrAnd r (λ x. x ≡ e) → refusalNumber e ≡ bulletinRefusal text flags → FindAnswered r old
+    found-refused-reads r e h k = rw (raised r h) (find-refused e (find-reads (length old) 0 e k))
+
+    module _ (z : 0 ≡ bulletinRefusal text flags) where
+      -- what is shown fits in as many bytes as there are
+      list-alone : {b : Bool} → b ≡ (leb (length spans) (length old) && leb (length output) (length text)) → b ≡ leb (length spans) (length old)
+      list-alone h = h ∙ ap (λ t. leb (length spans) (length old) && t) (le-leb (length output) (length text) (shown-length ρ text flags)) ∙ and-true (leb (length spans) (length old))
+
+      pub found-no-room : {b : Bool} → b ≡ (leb (length spans) (length old) && leb (length output) (length text)) → b ≡ false → FindAnswered (Err NoRoom) old
+      found-no-room h f = find-refused NoRoom (find-short (length old) 0 z (sym (list-alone h) ∙ f))
+
+      pub found-room : {b : Bool} → b ≡ (leb (length spans) (length old) && leb (length output) (length text)) → b ≡ true → length spans ≤ length old
+      found-room h t = leb-true (length spans) (length old) (sym (list-alone h) ∙ t)
+
+      pub found-all : length spans ≤ length old → (n : ℕ) {new : List ℕ} → n ≡ count ρ text flags → new ≡ written 0 spans old → FindAnswered (Ok n) new
+      unfolding find
+      found-all l n e w =
+          let f = find-fits (length old) 0 z (le-leb (length spans) (length old) l) in record { answer = rw f (ap finds e); list = all-written _ spans old f w }
+
+  -- ---- withholding, into a list and a buffer
+  module _ (lent old : List ℕ) where
+    abbrev refusal : ℕ
+    refusal = withholdRefusal ρ text flags (length lent) (length old)
+
+    pub record Answered (r : Result Withheld Refusal) (listed new : List ℕ) : Type 0 where
+      pub answer : shownOf r ≡ withhold ρ text flags (length lent) (length old)
+      pub list : listed ≡ written refusal spans lent
+      pub buffer : new ≡ written refusal output old
+
+    refused : (r : Refusal) → refusal ≡ refusalNumber r → Answered (Err r) lent old
     unfolding withhold
-    shown-all h w new l p b =
-        let e = by-table 0 z ∙ output-fits (length old) output (leb-true (length output) (length old) h) in
-        record { answer = rw e (ap (λ t. shows t w.pieces) l ∙ ap (shows (length output)) p); buffer = rw e b }
+    refused r e =
+        record { answer = rw (e, ne_eqb (refusalNumber r) 0 (refusal-positive r)) refl; list = unwritten refusal spans lent r e; buffer = unwritten refusal output old r e }
+
+    pub refused-reads : (r : Result Withheld Refusal) (e : Refusal) → IsErrAnd r (λ x. x ≡ e) → refusalNumber e ≡ bulletinRefusal text flags → Answered r lent old
+    refused-reads r e h k = rw (raised r h) (refused e (withhold-reads (length lent) (length old) e k))
+
+    module _ (z : 0 ≡ bulletinRefusal text flags) where
+      pub no-room : (leb (length spans) (length lent) && leb (length output) (length old)) ≡ false → Answered (Err NoRoom) lent old
+      no-room h = refused NoRoom (withhold-short (length lent) (length old) z h)
+
+      module _ (fits : (leb (length spans) (length lent) && leb (length output) (length old)) ≡ true) where
+        pub list-room : length spans ≤ length lent
+        list-room = leb-true (length spans) (length lent) (and_parts _ _ fits).0
+
+        module _ {listed : List ℕ} {pieces : ℕ} (c : pieces ≡ count ρ text flags) (l : listed ≡ written 0 spans lent) where
+          numbers : 3 * pieces ≡ length spans
+          numbers = ap (λ n. 3 * n) c ∙ sym (found-length ρ text flags)
+
+          pub front-fits : 3 * pieces ≤ length listed
+          unfolding written
+          front-fits = omega (arith, numbers, ap length l, length-append spans (drop (length spans) lent))
+
+          pub front-short : 3 * pieces ≤ 3 * length text
+          front-short = omega (arith, numbers, found-most ρ text flags)
+
+          pub front-is : take (3 * pieces) listed ≡ spans
+          unfolding written
+          front-is = ap (λ n. take n listed) numbers ∙ ap (take (length spans)) l ∙ take-append_seam spans (drop (length spans) lent)
+
+          not-refused : showRefusal text spans (length old) ≡ 0
+          not-refused =
+              same-refusal ρ text flags (length lent) (length old) (find-fits (length lent) (length old) z (and_parts _ _ fits).0) ∙ withhold-fits (length lent) (length old) z fits
+
+          shows-all : show text spans (length old) ≡ wrote (length output)
+          unfolding show writing
+          shows-all = rw (not-refused, beside-found ρ text flags) refl
+
+          -- showing beside what was found gives no refusal
+          pub not-err : {front : List ℕ} (e : Refusal) → front ≡ take (3 * pieces) listed → refusedWrite (refusalNumber e) ≡ show text front (length old) → ⊥
+          not-err e f h = clash true refl (sym (ap isWrote (h ∙ ap (λ s. show text s (length old)) (f ∙ front-is) ∙ shows-all)))
+
+          pub shown-all : {front new : List ℕ} (n : ℕ) → front ≡ take (3 * pieces) listed → wrote n ≡ show text front (length old)
+              → new ≡ written (showRefusal text front (length old)) (besides 0 front text) old → Answered (Ok (record { length = n; pieces = pieces })) listed new
+          unfolding withhold
+          shown-all n f h w =
+              let is = f ∙ front-is in
+              let r = withhold-fits (length lent) (length old) z fits in
+              let e = ap lengthOf (h ∙ ap (λ s. show text s (length old)) is ∙ shows-all) in
+              record {
+                answer = rw r (ap (λ k. shows k pieces) e ∙ ap (shows (length output)) c);
+                list = all-written refusal spans lent r l;
+                buffer = all-written refusal output old r (w ∙ ap (λ s. written (showRefusal text s (length old)) (besides 0 s text) old) is ∙ rw (not-refused, beside-found ρ text flags) refl);
+              }

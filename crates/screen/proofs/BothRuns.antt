@@ -4,10 +4,11 @@ use Rattle.std.proofs.Common.{◌≡◌, refl, sym, ◌∙◌, ap, Bool, true, f
 use lib.Seq.{take-append_seam}
 use Rattle.lexical.proofs.Cases.{split, clash}
 use Rattle.rules.specs.Refusal.{bulletinRefusal}
-use Rattle.rules.specs.Withhold.{shown, count, Shown, shows, refusedShown, withhold, withholdRefusal, written}
+use Rattle.rules.specs.Withhold.{shown, count, Shown, shows, refusedShown, written}
+use Rattle.rules.specs.Spans.{foundSpans, findRefusal, withhold, withholdRefusal}
 use Rattle.rules.specs.Private.{Swap}
 use Rattle.rules.specs.declared.Rules.{Rules}
-use Rattle.rules.proofs.Refusals.{output-first}
+use Rattle.rules.proofs.Refusals.{output-passed}
 use Rattle.runs.proofs.TwoRuns.{two-runs}
 use Rattle.screen.specs.Both.{SameAnswers, Alike}
 
@@ -24,9 +25,9 @@ isShown (shows n c) = true
 isShown (refusedShown r) = false
 
 -- ---- a run that is not refused
-module _ (ρ : Rules) (text flags old : List ℕ) where
+module _ (ρ : Rules) (text flags : List ℕ) (list : ℕ) (old : List ℕ) where
   abbrev refusal : ℕ
-  refusal = withholdRefusal ρ text flags (length old)
+  refusal = withholdRefusal ρ text flags list (length old)
 
   pub record Shown-by (n c : ℕ) (new : List ℕ) : Type 0 where
     pub taken : bulletinRefusal text flags ≡ 0
@@ -34,23 +35,22 @@ module _ (ρ : Rules) (text flags old : List ℕ) where
     pub count-is : c ≡ count ρ text flags
     pub bytes-are : take n new ≡ shown ρ text flags
 
-  not-refused : (n c : ℕ) → shows n c ≡ withhold ρ text flags (length old) → refusal ≡ 0
+  not-refused : (n c : ℕ) → shows n c ≡ withhold ρ text flags list (length old) → refusal ≡ 0
   unfolding withhold
   not-refused n c e =
       split (eqb refusal 0) (λ h. eqb-true refusal 0 h)
       (λ h. let z : shows n c ≡ refusedShown refusal = simp h at e in clash true refl (ap isShown z))
 
-  answer-is : (n c : ℕ) → shows n c ≡ withhold ρ text flags (length old) → shows n c ≡ shows (length (shown ρ text flags)) (count ρ text flags)
+  answer-is : (n c : ℕ) → shows n c ≡ withhold ρ text flags list (length old) → shows n c ≡ shows (length (shown ρ text flags)) (count ρ text flags)
   unfolding withhold
   answer-is n c e = rw (not-refused n c e) at e
 
   reads : refusal ≡ 0 → bulletinRefusal text flags ≡ 0
-  unfolding withholdRefusal
+  unfolding withholdRefusal findRefusal
   reads z =
-      split (eqb (bulletinRefusal text flags) 0) (λ h. eqb-true (bulletinRefusal text flags) 0 h)
-      (λ h. sym (output-first (bulletinRefusal text flags) (length old) (shown ρ text flags) (λ s. clash (eqb (bulletinRefusal text flags) 0) (ap (λ t. eqb t 0) s) h)) ∙ z)
+      output-passed (bulletinRefusal text flags) list (foundSpans ρ text flags) (output-passed (findRefusal ρ text flags list) (length old) (shown ρ text flags) z)
 
-  pub shown-by : (n c : ℕ) (new : List ℕ) → shows n c ≡ withhold ρ text flags (length old) → new ≡ written refusal (shown ρ text flags) old → Shown-by n c new
+  pub shown-by : (n c : ℕ) (new : List ℕ) → shows n c ≡ withhold ρ text flags list (length old) → new ≡ written refusal (shown ρ text flags) old → Shown-by n c new
   unfolding written
   shown-by n c new e w =
       let z = not-refused n c e in
@@ -64,13 +64,13 @@ module _ (ρ : Rules) (text flags old : List ℕ) where
       }
 
 -- ---- two runs
-module _ (ρ : Rules) (flags one two old₁ old₂ new₁ new₂ : List ℕ)
-    (w₁ : new₁ ≡ written (withholdRefusal ρ one flags (length old₁)) (shown ρ one flags) old₁)
-    (w₂ : new₂ ≡ written (withholdRefusal ρ two flags (length old₂)) (shown ρ two flags) old₂) where
-  same : (a b : Shown) → a ≡ withhold ρ one flags (length old₁) → b ≡ withhold ρ two flags (length old₂) → Swap ρ flags one two → SameAnswers a b new₁ new₂
+module _ (ρ : Rules) (flags one two : List ℕ) (list₁ list₂ : ℕ) (old₁ old₂ new₁ new₂ : List ℕ)
+    (w₁ : new₁ ≡ written (withholdRefusal ρ one flags list₁ (length old₁)) (shown ρ one flags) old₁)
+    (w₂ : new₂ ≡ written (withholdRefusal ρ two flags list₂ (length old₂)) (shown ρ two flags) old₂) where
+  same : (a b : Shown) → a ≡ withhold ρ one flags list₁ (length old₁) → b ≡ withhold ρ two flags list₂ (length old₂) → Swap ρ flags one two → SameAnswers a b new₁ new₂
   same (shows n₁ c₁) (shows n₂ c₂) e f swap =
-      let s = shown-by ρ one flags old₁ n₁ c₁ new₁ e w₁ in
-      let t = shown-by ρ two flags old₂ n₂ c₂ new₂ f w₂ in
+      let s = shown-by ρ one flags list₁ old₁ n₁ c₁ new₁ e w₁ in
+      let t = shown-by ρ two flags list₂ old₂ n₂ c₂ new₂ f w₂ in
       let r = two-runs ρ flags one two s.taken t.taken swap in
       record {
         same-bytes = s.bytes-are ∙ r.same-bytes ∙ sym t.bytes-are;
@@ -80,5 +80,5 @@ module _ (ρ : Rules) (flags one two old₁ old₂ new₁ new₂ : List ℕ)
   same (shows n₁ c₁) (refusedShown q) e f swap = tt
   same (refusedShown q) b e f swap = tt
 
-  pub both-alike : (a b : Shown) → a ≡ withhold ρ one flags (length old₁) → b ≡ withhold ρ two flags (length old₂) → Alike ρ flags one two a b new₁ new₂
+  pub both-alike : (a b : Shown) → a ≡ withhold ρ one flags list₁ (length old₁) → b ≡ withhold ρ two flags list₂ (length old₂) → Alike ρ flags one two a b new₁ new₂
   both-alike a b e f = record { alike = same a b e f }

@@ -1,3 +1,3 @@
-pub mod Withholding
+pub mod Finding
 pub mod Answers
 pub mod BothRuns

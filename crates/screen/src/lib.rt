@@ -2,4 +2,5 @@
 #![tactic(auto)]
 
 pub mod both;
+pub mod find;
 pub mod withhold;

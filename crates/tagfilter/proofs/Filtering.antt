@@ -1,15 +1,14 @@
 -- The filter is an output that goes by pieces, so what the law of the walk says of any such output holds of its length and its bytes; and the laws of its answer.
-use Rattle.std.proofs.Common.{◌≡◌, refl, sym, List, [], ℕ, ◌≤◌, length, drop, ltb-false}
+use Rattle.std.proofs.Common.{◌≡◌, sym, List, ℕ, length, drop}
 use Rattle.std.specs.Prelude.{Result}
 use Rattle.std.specs.Result.{IsErrAnd}
-use Rattle.lexical.specs.Text.{limit}
 use Rattle.rules.specs.Refusal.{bulletinRefusal, outputRefusal, refusalNumber}
 use Rattle.rules.specs.Withhold.{written}
 use Rattle.rules.specs.Output.{outputOf, Writes}
 use Rattle.rules.specs.Filter.{replaced, filtered, filterRefusal, filter}
 use Rattle.rules.specs.declared.Rules.{Rules}
 use Rattle.rules.specs.declared.refusal.Refusal.{Refusal}
-use Rattle.rules.proofs.Refusals.{not-met, raised}
+use Rattle.rules.proofs.Refusals.{raised}
 use Rattle.rules.proofs.Outputs.{read-refused}
 use Rattle.walk.proofs.Replacing.{Replacing}
 use Rattle.tagfilter.specs.Part.{pieceBytes}
@@ -38,8 +37,3 @@ module _ (ρ : Rules) (text flags old : List ℕ) where
   -- what was read is refused, and the answer passes that on
   pub refused-reads : (r : Result ℕ Refusal) (e : Refusal) → IsErrAnd r (λ x. x ≡ e) → refusalNumber e ≡ bulletinRefusal text flags → Answered r old
   refused-reads r e h k = rw (raised r h) (answered (refusalNumber e) k (read-refused (filtered ρ text flags) old e))
-
--- what is not refused is within the limit
-pub within-limit : (text flags : List ℕ) → bulletinRefusal text flags ≡ 0 → length text ≤ limit
-unfolding bulletinRefusal
-within-limit text flags e = ltb-false limit (length text) (not-met [] _ _ 1 refl refl e)

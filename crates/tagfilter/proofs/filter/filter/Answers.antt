@@ -1,8 +1,9 @@
 -- Each return is a row of the table of refusals, or the answer.
 use Rattle.std.proofs.Common.{sym, ◌∙◌, leb-true, leb-false}
 use Rattle.rules.specs.Filter.{filtered}
+use Rattle.rules.proofs.Refusals.{within-limit}
 use Rattle.rules.proofs.Outputs.{not-written, fits}
-use Rattle.tagfilter.proofs.Filtering.{answered, refused-reads, within-limit}
+use Rattle.tagfilter.proofs.Filtering.{answered, refused-reads}
 use Rattle.tagfilter.proofs.filter.filter.Goals as goal
 
 pub returns-in_err-check_bulletin : goal.returns-in_err-check_bulletin

@@ -1,21 +1,20 @@
 use Rattle.std.proofs.Common.{◌∙◌, ap, arith, rules}
-use Rattle.lexical.proofs.Stores.{nothing-written}
 use Rattle.rules.specs.Withhold.{shown, count}
 use Rattle.walk.specs.Yields.{left}
-use Rattle.walk.proofs.Walk.{counting-start, counting-on, number-bound, number-is}
-use Rattle.walk.proofs.Replacing.{size-bound, size-is, showing-start, showing-on, shows-all}
-use Rattle.screen.proofs.Withholding.{shown-length, withholding}
-use Rattle.screen.proofs.withhold.show.Goals as goal
+use Rattle.walk.proofs.Walk.{allPieces, all-ordered, counting-start, counting-on, number-bound, number-is}
+use Rattle.walk.proofs.Replacing.{withholding, walking-start, walking-on, size-bound, size-is}
+use Rattle.screen.proofs.Finding.{shown-length}
+use Rattle.screen.proofs.find.measure.Goals as goal
 
 pub loop-piece-init : goal.loop-piece-init
 loop-piece-init c = let b = c.args.bulletin in
     let all = ap left c.into_iter-piece-iterator.ensures.into_iter_gives ∙ c.pieces-piece-items.ensures in
-    (showing-start b (withholding b.text.now) c.args.out.now all, counting-start b all)
+    (walking-start (allPieces b) (withholding b.text.now) (all-ordered b) all, counting-start b all)
 
 pub overflow_add-size : goal.overflow_add-size
 unfolding shown
 overflow_add-size c = let b = c.args.bulletin in
-    let h = size-bound b (withholding b.text.now) c.loop-piece.invariant.0.walking c.in-Some.ensures.steps in
+    let h = size-bound (allPieces b) (withholding b.text.now) c.loop-piece.invariant.0 c.in-Some.ensures.steps in
     let s = shown-length b.rules b.text.now b.flags.now in search (rules, h, s)
 
 pub overflow_add-pieces : goal.overflow_add-pieces
@@ -23,23 +22,18 @@ overflow_add-pieces c = let b = c.args.bulletin in
     let h = number-bound b c.loop-piece.invariant.1 c.in-Some.ensures.steps in search (rules, h)
 
 pub loop-piece-preserved : goal.loop-piece-preserved
-unfolding shown
 loop-piece-preserved c = let b = c.args.bulletin in let at = c.loop-piece in (
-  showing-on b (withholding b.text.now) c.args.out.now c.requires at.invariant.0 c.in-Some.ensures.steps c.copy_part.ensures nothing-written _ (omega arith),
+  walking-on (allPieces b) (withholding b.text.now) at.invariant.0 c.in-Some.ensures.steps _ (omega arith),
   counting-on b at.invariant.1 c.in-Some.ensures.steps,
 )
 
 pub overflow_add-result : goal.overflow_add-result
 unfolding shown
 overflow_add-result c = let b = c.args.bulletin in
-    let h = size-is b (withholding b.text.now) c.loop-piece.invariant.0.walking c.in-None.ensures.steps.0 in
+    let h = size-is (allPieces b) (withholding b.text.now) c.loop-piece.invariant.0 c.in-None.ensures.steps.0 in
     let s = shown-length b.rules b.text.now b.flags.now in search (rules, h, s)
 
 pub returns : goal.returns
 unfolding shown count
 returns c = let b = c.args.bulletin in let at = c.loop-piece in let over = c.in-None.ensures.steps.0 in
-    record {
-      length-is = size-is b (withholding b.text.now) at.invariant.0.walking over;
-      pieces-are = number-is b at.invariant.1 over;
-      buffer = shows-all b (withholding b.text.now) c.args.out.now c.requires at.invariant.0 over c.copy_part-2.ensures;
-    }
+    record { length-is = size-is (allPieces b) (withholding b.text.now) at.invariant.0 over; pieces-are = number-is b at.invariant.1 over }
