@@ -6,10 +6,13 @@ use Rattle.rules.specs.Scan.{InlineAnswer, foundInline, noInline, refusedInline,
 use Rattle.rules.specs.Trace.{Record, eventRecord, lastRecord, refusedRecord}
 use Rattle.rules.specs.Withhold.{Shown, shows, refusedShown}
 use Rattle.rules.specs.Output.{Wrote, wrote, refusedWrite}
+use Rattle.rules.specs.Spans.{Found, finds, refusedFind, Part}
 use Rattle.foringamo.specs.declared.block.BlockResult.{BlockResult}
 use Rattle.foringamo.specs.declared.inline.InlineResult.{InlineResult}
 use Rattle.foringamo.specs.declared.record.RecordResult.{RecordResult}
 use Rattle.foringamo.specs.declared.shown.ShownResult.{ShownResult}
+use Rattle.foringamo.specs.declared.spans.SpansResult.{SpansResult}
+use Rattle.foringamo.specs.declared.spans.PartResult.{PartResult}
 use Rattle.foringamo.specs.declared.written.WrittenResult.{WrittenResult}
 
 -- yes is 1, no is 0
@@ -39,3 +42,10 @@ shownResult (refusedShown n) = record { refusal = n; length = 0; pieces = 0 }
 abbrev pub writtenResult : Wrote → WrittenResult
 writtenResult (wrote n) = record { refusal = 0; length = n }
 writtenResult (refusedWrite n) = record { refusal = n; length = 0 }
+
+abbrev pub spansResult : Found → SpansResult
+spansResult (finds count) = record { refusal = 0; count = count }
+spansResult (refusedFind n) = record { refusal = n; count = 0 }
+
+abbrev pub partResult : Part → PartResult
+partResult p = record { start = p.start; length = p.size }

@@ -10,4 +10,5 @@ pub mod inline;
 pub mod lines;
 pub mod record;
 pub mod shown;
+pub mod spans;
 mod written;

@@ -1,7 +1,8 @@
 // Withholding.
 ghost use Rattle.std.specs.Prelude.{◌≡◌, length};
 ghost use Rattle.rules.specs.Reading.{crate as ofCrate, standard};
-ghost use Rattle.rules.specs.Withhold.{shown, withhold as withholdOf, withholdRefusal, written};
+ghost use Rattle.rules.specs.Withhold.{shown, written};
+ghost use Rattle.rules.specs.Spans.{foundSpans, withhold as withholdOf, withholdRefusal};
 ghost use Rattle.screen.specs.Answer.{shownOf};
 ghost use Rattle.foringamo.specs.Result.{shownResult};
 
@@ -41,24 +42,32 @@ impl From<Result<Withheld, Refusal>> for ShownResult {
     }
 }
 
-// Shows a bulletin without its raw HTML.
+// Shows a bulletin without its raw HTML, with the span of each piece that is withheld.
 #[unsafe(no_mangle)]
-pub extern "C" fn foringamo_withhold(bulletin: &[u8], flags: &[u8], out: &mut [u8]) -> ShownResult
-    ensures answer { result ≡ shownResult (withholdOf ofCrate bulletin.now flags.now (length out.old)) }
-    ensures buffer { out.new ≡ written (withholdRefusal ofCrate bulletin.now flags.now (length out.old)) (shown ofCrate bulletin.now flags.now) out.old }
+pub extern "C" fn foringamo_withhold(
+    bulletin: &[u8],
+    flags: &[u8],
+    spans: &mut [u32],
+    out: &mut [u8],
+) -> ShownResult
+    ensures answer { result ≡ shownResult (withholdOf ofCrate bulletin.now flags.now (length spans.old) (length out.old)) }
+    ensures list { spans.new ≡ written (withholdRefusal ofCrate bulletin.now flags.now (length spans.old) (length out.old)) (foundSpans ofCrate bulletin.now flags.now) spans.old }
+    ensures buffer { out.new ≡ written (withholdRefusal ofCrate bulletin.now flags.now (length spans.old) (length out.old)) (shown ofCrate bulletin.now flags.now) out.old }
 {
-    ShownResult::from(withhold(crate_rules(), bulletin, flags, out))
+    ShownResult::from(withhold(crate_rules(), bulletin, flags, spans, out))
 }
 
-// Shows a bulletin without its raw HTML by the standard.
+// The same by the standard.
 #[unsafe(no_mangle)]
 pub extern "C" fn foringamo_standard_withhold(
     bulletin: &[u8],
     flags: &[u8],
+    spans: &mut [u32],
     out: &mut [u8],
 ) -> ShownResult
-    ensures answer { result ≡ shownResult (withholdOf standard bulletin.now flags.now (length out.old)) }
-    ensures buffer { out.new ≡ written (withholdRefusal standard bulletin.now flags.now (length out.old)) (shown standard bulletin.now flags.now) out.old }
+    ensures answer { result ≡ shownResult (withholdOf standard bulletin.now flags.now (length spans.old) (length out.old)) }
+    ensures list { spans.new ≡ written (withholdRefusal standard bulletin.now flags.now (length spans.old) (length out.old)) (foundSpans standard bulletin.now flags.now) spans.old }
+    ensures buffer { out.new ≡ written (withholdRefusal standard bulletin.now flags.now (length spans.old) (length out.old)) (shown standard bulletin.now flags.now) out.old }
 {
-    ShownResult::from(withhold(standard_rules(), bulletin, flags, out))
+    ShownResult::from(withhold(standard_rules(), bulletin, flags, spans, out))
 }

@@ -8,9 +8,13 @@ use lexical::slice::from_indices;
 use rules::crate_rules;
 use rules::refusal::Refusal;
 use screen::withhold::{Withheld, withhold};
+use spans::list::SPAN_NUMBERS;
 
 // How many bytes a bulletin has at most: fewer than the library takes.
 pub(crate) const LIMIT: usize = 16000;
+
+// Room for the spans of any bulletin: of its pieces each has a byte, and three numbers.
+const LIST: usize = SPAN_NUMBERS * LIMIT;
 
 // Withholds from a bulletin all of whose flags are 0, unless it is too long.
 pub(crate) fn answer(bulletin: &[u8], out: &mut [u8]) -> Result<Withheld, Refusal>
@@ -23,5 +27,6 @@ pub(crate) fn answer(bulletin: &[u8], out: &mut [u8]) -> Result<Withheld, Refusa
     // There is one line more than there are line endings.
     let flags = [0u8; LIMIT + 1];
     let lines = count_lines(bulletin);
-    withhold(crate_rules(), bulletin, from_indices(&flags, 0, lines), out)
+    let mut list = [0u32; LIST];
+    withhold(crate_rules(), bulletin, from_indices(&flags, 0, lines), &mut list, out)
 }
