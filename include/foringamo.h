@@ -1,12 +1,12 @@
 /*
  * Raw HTML in bulletins: what it is, what is shown without it, and what GitHub's tag filter makes of it.
  *
- * A slice is a pointer and a length in bytes. With length 0 nothing is read or written behind the pointer; it may be any pointer but NULL. An output buffer
- * shares no byte with another slice, so `out` is never the bulletin or trace itself. Any bytes are taken, valid UTF-8 or not, and NUL among them; what is written
+ * A slice is a pointer and a length, in bytes but for spans, where it counts numbers. With length 0 nothing is read or written behind the pointer; it may be any
+ * pointer but NULL. What is written to shares no byte with another slice, so `out` is never the bulletin or trace itself. Any bytes are taken, valid UTF-8 or not, and NUL among them; what is written
  * has no NUL at its end and is not escaped for HTML: foringamo_filter replaces the `<` of nine tags and no other byte. Nothing is kept when a function returns, none
  * of them allocates, and any number of threads may call them.
  *
- * Every result comes back by value; but for the count of lines, which refuses nothing, it begins with its refusal. Look at it first: a refusal also has kind 0
+ * Every result comes back by value; but for the count of lines and a stretch, which refuse nothing, it begins with its refusal. Look at it first: a refusal also has kind 0
  * or found 0, which without a refusal means that nothing was found.
  *
  *     0  not refused
@@ -16,14 +16,16 @@
  *     4  the index: in a bulletin not a line's first byte, in an inline text above its length
  *     5  the carry is above 5
  *     6  the inline text has two line endings with only spaces, tabs or no bytes between
- *     7  the output buffer is shorter than the output needs
+ *     7  the output buffer, or the list of spans, is shorter than the output needs
  *     8  reading or converting a trace: a kind byte is 0 or above 14
  *     9  reading or converting a trace: a record is cut off; reading it, also: there are not so many (so a loop over all records ends with 9)
  *    10  converting a trace: it has not exactly one last record, at its end
  *    11  making a trace narrow: a line, column, index or stop is above 65,535
+ *    12  showing: the spans given are not whole, out of order, overlapping, past the bulletin's end, with a stop not above the start, or of a kind above 1
  *
- * Of 1 to 7 the first that applies is given; converting a trace, 8 or 9 comes first, then 10, 11 and 7. On a refusal every other field is 0 but the carry, which is
- * the one passed in, and the name, which is 255; no byte of the output buffer changes. On an answer its bytes past those written stay as they are.
+ * Of 1 to 7 the first that applies is given; converting a trace, 8 or 9 comes first, then 10, 11 and 7; showing, 1, then 12, then 7. On a refusal every other field
+ * is 0 but the carry, which is the one passed in, and the name, which is 255; nothing changes in the output buffer or the list. On an answer what stands there past
+ * what was written stays as it is.
  *
  * A bulletin has one line more than it has line endings (LF, CR LF, or CR), also where it is empty or ends in one, and a flag for each line;
  * foringamo_count_lines says how many. A flag tells what a Markdown parser knows of the line; without one, all flags are 0:
@@ -39,8 +41,8 @@
  * every record of a long trace by its number, therefore takes the square of its length in time. Instead, hand an inline scan the paragraph's text only, scan for
  * blocks only at lines that begin with `<` behind at most three spaces, as no other opens one, and walk the trace's bytes: a record's kind tells its length.
  *
- * foringamo_withhold, foringamo_standard_withhold and foringamo_filter go through a bulletin once where there is the room that always suffices, else twice: first to
- * count what they would write.
+ * foringamo_find, foringamo_withhold, those of the standard and foringamo_filter go through a bulletin once where there is the room that always suffices, else twice:
+ * first to count what they would write.
  *
  * There are two readings. Functions with `standard` in their names read to the letter of CommonMark 0.31.2 (HTML blocks, Raw HTML). The others read as the Rust crate
  * markdown 1.0.0 does, which departs from it in eight places: where a block of kind 5 closes, in five places what opens kind 7, in one what an inline open tag is,
@@ -52,7 +54,7 @@
 #include <stddef.h>
 #include <stdint.h>
 
-#define FORINGAMO_VERSION "0.5.0"
+#define FORINGAMO_VERSION "0.6.0"
 
 #ifdef __cplusplus
 extern "C" {
@@ -91,7 +93,7 @@ typedef struct {
     size_t stop;
 } foringamo_inline;
 
-/* What was written, by a trace, by the filter or by a conversion. */
+/* What was written, by a trace, by the filter, by a conversion or by showing. */
 typedef struct {
     uint8_t refusal;
     size_t length; /* bytes written */
@@ -121,8 +123,20 @@ typedef struct {
 typedef struct {
     uint8_t refusal;
     size_t length; /* bytes written */
-    size_t pieces; /* blocks and inline pieces withheld, together */
+    size_t pieces; /* blocks and inline pieces withheld, together: as many spans were written */
 } foringamo_shown;
+
+/* What was found. */
+typedef struct {
+    uint8_t refusal;
+    size_t count; /* spans written, of three numbers each */
+} foringamo_spans;
+
+/* A part of a bulletin. */
+typedef struct {
+    size_t start;
+    size_t length;
+} foringamo_part;
 
 /* The number of lines of a text of any length: as many flags as a bulletin takes. An empty text has one line. */
 size_t foringamo_count_lines(const uint8_t *text, size_t text_len);
@@ -171,13 +185,41 @@ foringamo_written foringamo_widen_trace(const uint8_t *trace, size_t trace_len, 
 foringamo_written foringamo_narrow_trace(const uint8_t *trace, size_t trace_len, uint8_t *out, size_t out_len);
 
 /*
- * Writes the bulletin without its raw HTML. In a paragraph a `<` behind an odd number of backslashes in a row is text, in both readings and for the filter. Room
- * for bulletin_len bytes always suffices. Refusals 1, 2, 3, 7.
+ * Finds what is withheld, so that a screen can show the rest and draw a bar where something is not. A piece is a block or an inline piece; its span is three numbers,
+ * the index of its first byte, the stop behind its last, and 0 for inline or 1 for a block. The list is filled from its front with the span of each piece, in text
+ * order: they do not overlap, though two may touch. Room for bulletin_len * 3 numbers always suffices. In a paragraph a `<` behind an odd number of backslashes in a
+ * row is text, in both readings, for withholding and for the filter too. Refusals 1, 2, 3, 7.
  */
-foringamo_shown foringamo_withhold(const uint8_t *bulletin, size_t bulletin_len, const uint8_t *flags, size_t flags_len, uint8_t *out, size_t out_len);
+foringamo_spans foringamo_find(const uint8_t *bulletin, size_t bulletin_len, const uint8_t *flags, size_t flags_len, uint32_t *spans, size_t spans_len);
 
 /* The same by the standard, over its own blocks and inline pieces. Refusals 1, 2, 3, 7. */
-foringamo_shown foringamo_standard_withhold(const uint8_t *bulletin, size_t bulletin_len, const uint8_t *flags, size_t flags_len, uint8_t *out, size_t out_len);
+foringamo_spans foringamo_standard_find(const uint8_t *bulletin, size_t bulletin_len, const uint8_t *flags, size_t flags_len, uint32_t *spans, size_t spans_len);
+
+/*
+ * Writes the bytes of a bulletin that no span holds, in their order. Pass spans_len as three times what was found, not the length of the list; spans from elsewhere
+ * are taken too, and what stands for inline or block is checked but makes no difference. Room for bulletin_len bytes always suffices. Refusals 1, 12, 7.
+ */
+foringamo_written foringamo_show(const uint8_t *bulletin, size_t bulletin_len, const uint32_t *spans, size_t spans_len, uint8_t *out, size_t out_len);
+
+/*
+ * The stretch of a number, counted from 0, as a part of the bulletin itself: what is shown before the span of that number, or after the last one. There is one more
+ * than there are spans, and all of them, one after the other, are what foringamo_show writes. A stretch can be empty, where two spans touch, or one begins or ends the
+ * bulletin; its start is right even so. Both fields are 0 for a number past the last, and for a bulletin or spans that foringamo_show refuses by 1 or 12. Each call
+ * looks through all spans: a caller of many reads a part's ends from the list instead, start from the stop before and stop from the next start.
+ */
+foringamo_part foringamo_stretch(const uint8_t *bulletin, size_t bulletin_len, const uint32_t *spans, size_t spans_len, size_t number);
+
+/*
+ * Writes the bulletin without its raw HTML: foringamo_find, and then foringamo_show beside what was found. A refusal leaves the list as it was, too. Room for
+ * bulletin_len * 3 numbers and bulletin_len bytes always suffices. Refusals 1, 2, 3, 7.
+ *
+ * Two bulletins that differ only in bytes kept private within a withheld piece show alike. Their lists have as many spans, of the same kinds; but a list tells how
+ * long each piece is, so do not show its numbers where a length is private.
+ */
+foringamo_shown foringamo_withhold(const uint8_t *bulletin, size_t bulletin_len, const uint8_t *flags, size_t flags_len, uint32_t *spans, size_t spans_len, uint8_t *out, size_t out_len);
+
+/* The same by the standard: foringamo_standard_find, and then foringamo_show. Refusals 1, 2, 3, 7. */
+foringamo_shown foringamo_standard_withhold(const uint8_t *bulletin, size_t bulletin_len, const uint8_t *flags, size_t flags_len, uint32_t *spans, size_t spans_len, uint8_t *out, size_t out_len);
 
 /*
  * Writes the bulletin as GitHub's tag filter shows it (GitHub Flavored Markdown Spec, Disallowed Raw HTML). The blocks and inline pieces are those that

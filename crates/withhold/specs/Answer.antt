@@ -1,9 +1,10 @@
 -- What the program shows: SCOPE, What is read and given, and SCOPE, Long bulletins.
-use Rattle.std.specs.Prelude.{ℕ, List, ltb, length, replicate}
+use Rattle.std.specs.Prelude.{ℕ, List, eqb, ltb, length, replicate}
 use Rattle.lexical.specs.Line.{lines}
 use Rattle.rules.specs.Reading.{crate as ofCrate}
 use Rattle.rules.specs.Search.{choose}
-use Rattle.rules.specs.Withhold.{Shown, refusedShown, shown, withholdRefusal, withhold, written}
+use Rattle.rules.specs.Refusal.{bulletinRefusal, outputRefusal}
+use Rattle.rules.specs.Withhold.{Shown, shows, refusedShown, shown, count, written}
 
 -- the most bytes of a bulletin on standard input
 abbrev pub most : ℕ
@@ -13,11 +14,18 @@ most = 16000
 abbrev pub noFlags : List ℕ → List ℕ
 noFlags text = replicate (lines text) 0
 
--- 1 is met first; room is the length of the output buffer
+-- what is shown
+abbrev pub shownText : List ℕ → List ℕ
+shownText text = shown ofCrate text (noFlags text)
+
+-- 1 is met first; then what withholding refuses, but for its list of spans: that has room for those of any such bulletin. room is the length of the output buffer
+abbrev pub answerRefusal : List ℕ → ℕ → ℕ
+answerRefusal text room = choose (ltb most (length text)) (λ _. 1) (λ _. outputRefusal (bulletinRefusal text (noFlags text)) room (shownText text))
+
 abbrev pub answerOf : List ℕ → ℕ → Shown
-answerOf text room = choose (ltb most (length text)) (λ _. refusedShown 1) (λ _. withhold ofCrate text (noFlags text) room)
+answerOf text room =
+    choose (eqb (answerRefusal text room) 0) (λ _. shows (length (shownText text)) (count ofCrate text (noFlags text))) (λ _. refusedShown (answerRefusal text room))
 
 -- the output buffer afterwards
 abbrev pub bufferOf : List ℕ → List ℕ → List ℕ
-bufferOf text old =
-    choose (ltb most (length text)) (λ _. old) (λ _. written (withholdRefusal ofCrate text (noFlags text) (length old)) (shown ofCrate text (noFlags text)) old)
+bufferOf text old = written (answerRefusal text (length old)) (shownText text) old
