@@ -46,7 +46,7 @@ impl Case {
         let (_, fields) = cut(asked);
         match letter {
             b'n' => Case::as_it_stands(alloc, fields),
-            b'w' | b'W' | b'g' => Case::with_room(alloc, fields),
+            b'w' | b'W' | b'g' | b'u' | b'U' | b'o' => Case::with_room(alloc, fields),
             b'I' | b'B' | b'e' | b'x' | b'X' | b's' | b'l' => Case::in_hexadecimal(alloc, asked),
             b'S' | b'L' => Case::of_one_byte(alloc, asked),
             _ => Case::in_digits(alloc, fields),

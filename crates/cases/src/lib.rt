@@ -12,4 +12,5 @@ pub mod run;
 mod scans;
 mod screens;
 mod show;
+mod spans;
 mod traces;

@@ -4,6 +4,7 @@ use lexical::slice::from_indices;
 use rules::refusal::Refusal;
 use rules::{Rules, crate_rules};
 use screen::withhold::withhold;
+use spans::list::SPAN_NUMBERS;
 use std::alloc::Global;
 use std::io;
 use std::io::Write;
@@ -29,7 +30,7 @@ fn show_byte(out: &mut impl Write, byte: u8) -> io::Result<()> {
     }
 }
 
-fn show_bytes(out: &mut impl Write, bytes: &[u8]) -> io::Result<()> {
+pub fn show_bytes(out: &mut impl Write, bytes: &[u8]) -> io::Result<()> {
     for byte in bytes {
         show_byte(out, *byte)?;
     }
@@ -42,10 +43,11 @@ fn show_refused(out: &mut impl Write, refusal: Refusal, buffer: &[u8]) -> io::Re
     write!(out, "{refusal}")
 }
 
-// Withholding in a reading: `shown LENGTH PIECES BYTES`, the bytes with escapes, behind `same` where the output buffer is as it was behind them; or a refusal.
+// Withholding in a reading, with room for all spans: `shown LENGTH PIECES BYTES`, the bytes with escapes, behind `same` where the output buffer is as it was behind them; or a refusal.
 pub fn withheld(alloc: Global, out: &mut impl Write, case: &Case, rules: Rules) -> io::Result<()> {
+    let mut list = vec![in alloc; 0; case.text.len().saturating_mul(SPAN_NUMBERS)]?;
     let mut buffer = case.buffer(alloc)?;
-    match withhold(rules, &case.text, &case.flags, &mut buffer) {
+    match withhold(rules, &case.text, &case.flags, &mut list, &mut buffer) {
         Ok(withheld) => {
             let length = withheld.length;
             show_same(out, &buffer, length)?;
@@ -56,15 +58,25 @@ pub fn withheld(alloc: Global, out: &mut impl Write, case: &Case, rules: Rules) 
     }
 }
 
-// The tag filter: the same, with `written LENGTH BYTES`.
+// What was written: `written LENGTH BYTES`, the bytes with escapes, behind `same` where the output buffer is as it was behind them; or a refusal.
+pub fn show_written(
+    out: &mut impl Write,
+    answer: Result<usize, Refusal>,
+    buffer: &[u8],
+) -> io::Result<()> {
+    match answer {
+        Ok(length) => {
+            show_same(out, buffer, length)?;
+            write!(out, "written {length} ")?;
+            show_bytes(out, from_indices(buffer, 0, length))
+        }
+        Err(refusal) => show_refused(out, refusal, buffer),
+    }
+}
+
+// The tag filter.
 pub fn filtered(alloc: Global, out: &mut impl Write, case: &Case) -> io::Result<()> {
     let mut buffer = case.buffer(alloc)?;
-    match filter(crate_rules(), &case.text, &case.flags, &mut buffer) {
-        Ok(length) => {
-            show_same(out, &buffer, length)?;
-            write!(out, "written {length} ")?;
-            show_bytes(out, from_indices(&buffer, 0, length))
-        }
-        Err(refusal) => show_refused(out, refusal, &buffer),
-    }
+    let answer = filter(crate_rules(), &case.text, &case.flags, &mut buffer);
+    show_written(out, answer, &buffer)
 }
