@@ -1,7 +1,7 @@
 /*
  * The C interface: the layout of its structs, the count of lines, the names in their places, each first byte of a name, every refusal, what becomes of the output
- * buffer, and where the two readings part; tests/filter.c has the tag filter, tests/long.c long bulletins, tests/conversion.c the conversion of traces.
- * tests/interface.sh builds and runs all four. A line for each check that fails; the last line is 'N passed, M failed'.
+ * buffer, and where the two readings part; tests/filter.c has the tag filter, tests/long.c long bulletins, tests/conversion.c the conversion of traces, tests/spans.c
+ * finding and showing. tests/interface.sh builds and runs all five. A line for each check that fails; the last line is 'N passed, M failed'.
  */
 #include <ctype.h>
 
@@ -39,9 +39,9 @@ static void layout(void) {
 /* As withholding sees it: with so many flags a bulletin is not refused by their count, with one fewer or more it is. */
 static int takes_flags(const uint8_t *text, size_t length, size_t lines) {
     static uint8_t shown[LIMIT];
-    return foringamo_withhold(text, length, zeros, lines, shown, sizeof shown).refusal == 0 &&
-           foringamo_withhold(text, length, zeros, lines - 1, shown, sizeof shown).refusal == 2 &&
-           foringamo_withhold(text, length, zeros, lines + 1, shown, sizeof shown).refusal == 2;
+    return rust.withhold(text, length, zeros, lines, shown, sizeof shown).refusal == 0 &&
+           rust.withhold(text, length, zeros, lines - 1, shown, sizeof shown).refusal == 2 &&
+           rust.withhold(text, length, zeros, lines + 1, shown, sizeof shown).refusal == 2;
 }
 
 static int has_lines(const uint8_t *text, size_t length, size_t lines) {

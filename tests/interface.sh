@@ -1,7 +1,7 @@
 #!/usr/bin/env bash
 # The C interface, as a user links it: the examples in C and in Rust write what examples/expected.txt has, tests/interface.c walks the refusals and the readings,
-# tests/filter.c the tag filter, tests/long.c long bulletins, tests/conversion.c old traces across and back, and the Rust package in rust/ passes its tests without a
-# warning, built by cargo and by rustc alone.
+# tests/filter.c the tag filter, tests/long.c long bulletins, tests/conversion.c old traces across and back, tests/spans.c finding and showing, and the Rust package in
+# rust/ passes its tests without a warning, built by cargo and by rustc alone.
 #
 #     tests/interface.sh
 #
@@ -114,7 +114,7 @@ in_c() {
         fails 'examples/example.c: not compiled'
     fi
     local program
-    for program in interface filter long conversion; do
+    for program in interface filter long conversion spans; do
         if compile_c "tests/$program.c" "$built/$program"; then
             walks "tests/$program.c" "$built/$program"
         else

@@ -208,8 +208,8 @@ static int all_give(int refusal, const uint8_t *flags, size_t count) {
     return foringamo_block_scan(big, LIMIT, flags, count, LIMIT).refusal == refusal &&
            foringamo_standard_block_scan(big, LIMIT, flags, count, LIMIT).refusal == refusal &&
            foringamo_block_trace(big, LIMIT, flags, count, LIMIT, lent, LIMIT).refusal == refusal &&
-           foringamo_withhold(big, LIMIT, flags, count, lent, LIMIT).refusal == refusal &&
-           foringamo_standard_withhold(big, LIMIT, flags, count, lent, LIMIT).refusal == refusal &&
+           rust.withhold(big, LIMIT, flags, count, lent, LIMIT).refusal == refusal &&
+           standard.withhold(big, LIMIT, flags, count, lent, LIMIT).refusal == refusal &&
            foringamo_filter(big, LIMIT, flags, count, lent, LIMIT).refusal == refusal && lent_kept(refusal == 0 ? LIMIT : 0, LIMIT);
 }
 
