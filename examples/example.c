@@ -1,9 +1,11 @@
 /*
- * Counts the lines of a bulletin, withholds from it, scans it for a block and an inline piece, withholds in both readings, filters tags, and traces a scan.
+ * Counts the lines of a bulletin, withholds from it, finds first and shows afterwards, with bars, scans it for a block and an inline piece, withholds in both readings,
+ * filters tags, and traces a scan.
  *
  *     scripts/archive.sh
  *     cc -Iinclude -o target/example examples/example.c target/staticlib/libforingamo.a && target/example
  */
+#include <inttypes.h>
 #include <stdio.h>
 #include <stdlib.h>
 #include <string.h>
@@ -17,6 +19,9 @@ int main(void) {
     const char *source = "door <!-- x -->9\n<div>\nold\n\nok";
     const uint8_t *bulletin = (const uint8_t *)source;
     size_t length = strlen(source);
+    /* Room for three numbers a byte always suffices; the length of a list counts numbers. */
+    uint32_t spans[3 * 100];
+    const size_t spans_len = sizeof spans / sizeof spans[0];
     uint8_t out[100];
 
     /* A flag for each line, all 0: neither lazy nor interrupt. */
@@ -28,7 +33,8 @@ int main(void) {
     printf("%zu lines\n", lines);
 
     /* The line `<div>` begins at 17. */
-    foringamo_shown shown = foringamo_withhold(bulletin, length, flags, lines, out, sizeof out);
+    foringamo_shown shown = foringamo_withhold(bulletin, length, flags, lines, spans, spans_len, out, sizeof out);
+    foringamo_spans found = foringamo_find(bulletin, length, flags, lines, spans, spans_len);
     foringamo_block block = foringamo_block_scan(bulletin, length, flags, lines, 17);
     free(flags);
 
@@ -38,6 +44,36 @@ int main(void) {
     }
     printf("%zu pieces withheld, %zu bytes shown:\n", shown.pieces, shown.length);
     fwrite(out, 1, shown.length, stdout);
+    printf("\n");
+
+    /* The same in two. */
+    if (found.refusal != 0) {
+        printf("refused %d\n", found.refusal);
+        return 1;
+    }
+    printf("%zu spans found:\n", found.count);
+    for (size_t number = 0; number < found.count; number++) {
+        const uint32_t *span = spans + 3 * number;
+        printf("%s from %" PRIu32 " to %" PRIu32 "\n", span[2] == 1 ? "block" : "inline", span[0], span[1]);
+    }
+    foringamo_written beside = foringamo_show(bulletin, length, spans, 3 * found.count, out, sizeof out);
+    if (beside.refusal != 0) {
+        printf("refused %d\n", beside.refusal);
+        return 1;
+    }
+    printf("%zu bytes shown beside them:\n", beside.length);
+    fwrite(out, 1, beside.length, stdout);
+    printf("\n");
+
+    /* One stretch more than there are spans, each a part of the bulletin. */
+    printf("%zu stretches, with a bar between:\n", found.count + 1);
+    for (size_t number = 0; number <= found.count; number++) {
+        if (number > 0) {
+            printf("|");
+        }
+        foringamo_part stretch = foringamo_stretch(bulletin, length, spans, 3 * found.count, number);
+        fwrite(bulletin + stretch.start, 1, stretch.length, stdout);
+    }
     printf("\n");
 
     if (block.refusal != 0) {
@@ -71,8 +107,8 @@ int main(void) {
     /* One line, one flag. To the Rust `d/e` is no value of an attribute, so that there is no tag. */
     const uint8_t flag = 0;
     const uint8_t *tag = (const uint8_t *)"a <b c=d/e>";
-    shown = foringamo_withhold(tag, 11, &flag, 1, out, sizeof out);
-    foringamo_shown standard = foringamo_standard_withhold(tag, 11, &flag, 1, out, sizeof out);
+    shown = foringamo_withhold(tag, 11, &flag, 1, spans, spans_len, out, sizeof out);
+    foringamo_shown standard = foringamo_standard_withhold(tag, 11, &flag, 1, spans, spans_len, out, sizeof out);
     if (shown.refusal != 0 || standard.refusal != 0) {
         printf("refused %d, %d\n", shown.refusal, standard.refusal);
         return 1;

@@ -2,12 +2,12 @@
  * Raw HTML in bulletins: what it is, what is shown without it, and what GitHub's tag filter makes of it.
  *
  * A slice is a pointer and a length, in bytes but for spans, where it counts numbers. With length 0 nothing is read or written behind the pointer; it may be any
- * pointer but NULL. What is written to shares no byte with another slice, so `out` is never the bulletin or trace itself. Any bytes are taken, valid UTF-8 or not, and NUL among them; what is written
- * has no NUL at its end and is not escaped for HTML: foringamo_filter replaces the `<` of nine tags and no other byte. Nothing is kept when a function returns, none
- * of them allocates, and any number of threads may call them.
+ * pointer but NULL. What is written to shares no byte with another slice, so `out` is never the bulletin or trace itself. Any bytes are taken, valid UTF-8 or not,
+ * and NUL among them; what is written has no NUL at its end and is not escaped for HTML: foringamo_filter replaces the `<` of nine tags and no other byte. Nothing is
+ * kept when a function returns, none of them allocates, and any number of threads may call them.
  *
- * Every result comes back by value; but for the count of lines and a stretch, which refuse nothing, it begins with its refusal. Look at it first: a refusal also has kind 0
- * or found 0, which without a refusal means that nothing was found.
+ * Every result comes back by value; but for the count of lines and a stretch, which refuse nothing, it begins with its refusal. Look at it first: a refusal also has
+ * kind 0, found 0 or count 0, which without a refusal means that nothing was found.
  *
  *     0  not refused
  *     1  the bulletin or text has over 1,000,000 bytes
@@ -186,7 +186,7 @@ foringamo_written foringamo_narrow_trace(const uint8_t *trace, size_t trace_len,
 
 /*
  * Finds what is withheld, so that a screen can show the rest and draw a bar where something is not. A piece is a block or an inline piece; its span is three numbers,
- * the index of its first byte, the stop behind its last, and 0 for inline or 1 for a block. The list is filled from its front with the span of each piece, in text
+ * the index of its first byte, the stop behind its last, and its kind, 0 for inline or 1 for a block. The list is filled from its front with the span of each piece, in text
  * order: they do not overlap, though two may touch. Room for bulletin_len * 3 numbers always suffices. In a paragraph a `<` behind an odd number of backslashes in a
  * row is text, in both readings, for withholding and for the filter too. Refusals 1, 2, 3, 7.
  */
@@ -197,7 +197,7 @@ foringamo_spans foringamo_standard_find(const uint8_t *bulletin, size_t bulletin
 
 /*
  * Writes the bytes of a bulletin that no span holds, in their order. Pass spans_len as three times what was found, not the length of the list; spans from elsewhere
- * are taken too, and what stands for inline or block is checked but makes no difference. Room for bulletin_len bytes always suffices. Refusals 1, 12, 7.
+ * are taken too, and their kinds are checked but make no difference. Room for bulletin_len bytes always suffices. Refusals 1, 12, 7.
  */
 foringamo_written foringamo_show(const uint8_t *bulletin, size_t bulletin_len, const uint32_t *spans, size_t spans_len, uint8_t *out, size_t out_len);
 

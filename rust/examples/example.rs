@@ -1,23 +1,53 @@
-//! Counts the lines of a bulletin, withholds from it, scans it for a block and an inline piece, withholds in both readings, filters tags, and traces a scan.
+//! Counts the lines of a bulletin, withholds from it, finds first and shows afterwards, with bars, scans it for a block and an inline piece, withholds in both readings,
+//! filters tags, and traces a scan.
 //!
 //!     scripts/archive.sh
 //!     CARGO_TARGET_DIR=target/cargo cargo run --offline --manifest-path rust/Cargo.toml --example example
 #![forbid(unsafe_code)]
 
-use foringamo::{Inline, Record, Refusal};
+use foringamo::{Inline, Record, Refusal, Span};
 use std::io::Write;
+
+// Bulletins need not be valid UTF-8.
+fn print(bytes: &[u8]) {
+    std::io::stdout().write_all(bytes).expect("standard output");
+}
 
 fn run() -> Result<(), Refusal> {
     let bulletin = b"door <!-- x -->9\n<div>\nold\n\nok";
+    // Room for as many spans as bytes always suffices.
+    let mut spans = [Span::default(); 100];
     let mut out = [0; 100];
 
     // A flag for each line, all 0: neither lazy nor interrupt.
     let flags = vec![0; foringamo::count_lines(bulletin)];
     println!("{} lines", flags.len());
 
-    let shown = foringamo::withhold(bulletin, &flags, &mut out)?;
+    let shown = foringamo::withhold(bulletin, &flags, &mut spans, &mut out)?;
     println!("{} pieces withheld, {} bytes shown:", shown.pieces, shown.length);
-    std::io::stdout().write_all(&out[..shown.length]).expect("standard output");
+    print(&out[..shown.length]);
+    println!();
+
+    // The same in two.
+    let count = foringamo::find(bulletin, &flags, &mut spans)?;
+    let found = &spans[..count];
+    println!("{count} spans found:");
+    for span in found {
+        println!("{} from {} to {}", if span.is_block() { "block" } else { "inline" }, span.start, span.stop);
+    }
+    let length = foringamo::show(bulletin, found, &mut out)?;
+    println!("{length} bytes shown beside them:");
+    print(&out[..length]);
+    println!();
+
+    // One stretch more than there are spans, each a part of the bulletin.
+    println!("{} stretches, with a bar between:", count + 1);
+    for number in 0..=count {
+        if number > 0 {
+            print!("|");
+        }
+        print(foringamo::stretch(bulletin, found, number));
+    }
     println!();
 
     // The line `<div>` begins at 17.
@@ -42,8 +72,8 @@ fn run() -> Result<(), Refusal> {
 
     // One line, one flag. To the Rust `d/e` is no value of an attribute, so that there is no tag.
     let tag = "a <b c=d/e>";
-    let shown = foringamo::withhold(tag.as_bytes(), &[0], &mut out)?.length;
-    let standard = foringamo::standard_withhold(tag.as_bytes(), &[0], &mut out)?.length;
+    let shown = foringamo::withhold(tag.as_bytes(), &[0], &mut spans, &mut out)?.length;
+    let standard = foringamo::standard_withhold(tag.as_bytes(), &[0], &mut spans, &mut out)?.length;
     println!("of {tag} {shown} bytes are shown, by the standard {standard}");
 
     // Room for 8/5 of the bytes always suffices.

@@ -6,28 +6,36 @@
 //! A bulletin has one line more than it has line endings (LF, CR LF, or CR), and a flag for each line: 0, [`LAZY`], [`INTERRUPT`], or both. [`count_lines`] says how
 //! many. An index and a stop count bytes from 0; a stop is behind the last byte taken.
 //!
-//! There are two readings. [`standard_block_scan`], [`standard_inline_scan`] and [`standard_withhold`] read to the letter of CommonMark 0.31.2; the other functions read
-//! as the Rust crate markdown 1.0.0 does, with its eight changes to it.
+//! There are two readings. [`standard_block_scan`], [`standard_inline_scan`], [`standard_find`] and [`standard_withhold`] read to the letter of CommonMark 0.31.2; the
+//! other functions read as the Rust crate markdown 1.0.0 does, with its eight changes to it.
 //!
-//! What is refused comes back as a [`Refusal`], and no byte of an output buffer has changed. On an answer the bytes past those written stay as they are.
+//! What is refused comes back as a [`Refusal`], and nothing has changed in an output buffer or a list of spans. On an answer what stands there past what was written
+//! stays as it is. [`count_lines`] and [`stretch`] refuse nothing.
 //!
 //! Each call looks through its whole input for refusals, and [`read_trace`] walks from the first record. To scan at every line of a long bulletin, or to read every
 //! record of a long trace by its number, therefore takes the square of its length in time. Instead, hand an inline scan the paragraph's text only, scan for blocks
 //! only at lines that begin with `<` behind at most three spaces, as no other opens one, and walk the trace's bytes: see [`Record`].
 //!
+//! [`find`], [`withhold`], those of the standard and [`filter`] go through a bulletin once where there is the room that always suffices, else twice: first to count
+//! what they would write.
+//!
 //! ```
 //! let bulletin = b"door <!-- x -->9\n<div>\nold\n\nok";
 //! let flags = vec![0; foringamo::count_lines(bulletin)];
+//! let mut spans = vec![foringamo::Span::default(); bulletin.len()];
 //! let mut out = vec![0; bulletin.len()];
-//! let shown = foringamo::withhold(bulletin, &flags, &mut out)?;
+//! let shown = foringamo::withhold(bulletin, &flags, &mut spans, &mut out)?;
 //! assert_eq!(&out[..shown.length], b"door 9\n\n\nok");
 //! assert_eq!(shown.pieces, 2);
+//! assert_eq!(&bulletin[spans[0].range()], b"<!-- x -->");
 //! # Ok::<(), foringamo::Refusal>(())
 //! ```
 #![no_std]
 #![warn(missing_docs)]
 
 use core::fmt;
+use core::ops::Range;
+use core::slice;
 
 /// How many bytes a bulletin or a text has at most.
 pub const LIMIT: usize = 1_000_000;
@@ -38,8 +46,8 @@ pub const LAZY: u8 = 1;
 /// The flag of a line that would have to interrupt a paragraph.
 pub const INTERRUPT: u8 = 2;
 
-/// Why an input is refused, with its number. Of 1 to 7 the first that applies is given; converting a trace, 8 or 9 comes first, then 10, 11 and 7. A later version may
-/// have more of them, for functions that it adds.
+/// Why an input is refused, with its number. Of 1 to 7 the first that applies is given; converting a trace, 8 or 9 comes first, then 10, 11 and 7; showing, 1, then 12,
+/// then 7. A later version may have more of them, for functions that it adds.
 #[derive(Clone, Copy, Debug, PartialEq, Eq, Hash)]
 #[non_exhaustive]
 #[repr(u8)]
@@ -56,7 +64,7 @@ pub enum Refusal {
     WrongCarry = 5,
     /// The inline text has two line endings with only spaces, tabs or no bytes between.
     BlankLine = 6,
-    /// The output buffer is shorter than the output needs.
+    /// The output buffer, or the list of spans, is shorter than the output needs.
     NoRoom = 7,
     /// Reading or converting a trace: a kind byte is 0 or above 14.
     WrongKind = 8,
@@ -66,10 +74,13 @@ pub enum Refusal {
     NotEnded = 10,
     /// Making a trace narrow: a line, column, index or stop is above 65,535.
     NotNarrow = 11,
+    /// Showing: the spans given are out of order, overlapping, past the bulletin's end, with a stop not above the start, or of a sort above 1. Not whole, as in C, they
+    /// cannot be.
+    WrongSpans = 12,
 }
 
 impl Refusal {
-    /// Its number, 1 to 11.
+    /// Its number, 1 to 12.
     pub fn number(self) -> u8 {
         self as u8
     }
@@ -84,11 +95,12 @@ impl fmt::Display for Refusal {
             Refusal::WrongIndex => "the index is not a line's first byte, or above the text's length",
             Refusal::WrongCarry => "the carry is above 5",
             Refusal::BlankLine => "the inline text has a blank line",
-            Refusal::NoRoom => "the output buffer is shorter than the output needs",
+            Refusal::NoRoom => "the output buffer, or the list of spans, is shorter than the output needs",
             Refusal::WrongKind => "a kind byte of the trace is 0 or above 14",
             Refusal::CutOff => "a record of the trace is cut off or not there",
             Refusal::NotEnded => "the trace has not exactly one last record, at its end",
             Refusal::NotNarrow => "a line, column, index or stop of the trace is above 65,535",
+            Refusal::WrongSpans => "the spans are out of order, overlapping, past the bulletin's end, with a stop not above the start, or of a sort above 1",
         })
     }
 }
@@ -252,8 +264,32 @@ impl Record {
 pub struct Shown {
     /// Bytes written.
     pub length: usize,
-    /// Blocks and inline pieces withheld, together.
+    /// Blocks and inline pieces withheld, together: as many spans were written.
     pub pieces: usize,
+}
+
+/// The span of a piece, which is a block or an inline piece. The default, all 0, is none: it makes room for one in a list.
+#[derive(Clone, Copy, Debug, Default, PartialEq, Eq, Hash)]
+#[repr(C)]
+pub struct Span {
+    /// The index of its first byte.
+    pub start: u32,
+    /// The stop behind its last.
+    pub stop: u32,
+    /// 0 for inline, 1 for a block.
+    pub sort: u32,
+}
+
+impl Span {
+    /// Whether the piece is a block.
+    pub fn is_block(self) -> bool {
+        self.sort == 1
+    }
+
+    /// From its start to its stop: `bulletin[span.range()]` is the piece.
+    pub fn range(self) -> Range<usize> {
+        self.start as usize..self.stop as usize
+    }
 }
 
 mod c {
@@ -275,7 +311,7 @@ mod c {
         pub stop: usize,
     }
 
-    // Of traces, the filter and conversions.
+    // Of traces, the filter, conversions and showing.
     #[repr(C)]
     pub struct Written {
         pub refusal: u8,
@@ -297,6 +333,18 @@ mod c {
         pub refusal: u8,
         pub length: usize,
         pub pieces: usize,
+    }
+
+    #[repr(C)]
+    pub struct Spans {
+        pub refusal: u8,
+        pub count: usize,
+    }
+
+    #[repr(C)]
+    pub struct Part {
+        pub start: usize,
+        pub length: usize,
     }
 
     #[link(name = "foringamo", kind = "static")]
@@ -325,11 +373,38 @@ mod c {
         pub fn foringamo_read_trace(trace: *const u8, trace_len: usize, number: usize) -> Record;
         pub fn foringamo_widen_trace(trace: *const u8, trace_len: usize, out: *mut u8, out_len: usize) -> Written;
         pub fn foringamo_narrow_trace(trace: *const u8, trace_len: usize, out: *mut u8, out_len: usize) -> Written;
+        pub fn foringamo_find(
+            bulletin: *const u8,
+            bulletin_len: usize,
+            flags: *const u8,
+            flags_len: usize,
+            spans: *mut u32,
+            spans_len: usize,
+        ) -> Spans;
+        pub fn foringamo_standard_find(
+            bulletin: *const u8,
+            bulletin_len: usize,
+            flags: *const u8,
+            flags_len: usize,
+            spans: *mut u32,
+            spans_len: usize,
+        ) -> Spans;
+        pub fn foringamo_show(
+            bulletin: *const u8,
+            bulletin_len: usize,
+            spans: *const u32,
+            spans_len: usize,
+            out: *mut u8,
+            out_len: usize,
+        ) -> Written;
+        pub fn foringamo_stretch(bulletin: *const u8, bulletin_len: usize, spans: *const u32, spans_len: usize, number: usize) -> Part;
         pub fn foringamo_withhold(
             bulletin: *const u8,
             bulletin_len: usize,
             flags: *const u8,
             flags_len: usize,
+            spans: *mut u32,
+            spans_len: usize,
             out: *mut u8,
             out_len: usize,
         ) -> Shown;
@@ -338,6 +413,8 @@ mod c {
             bulletin_len: usize,
             flags: *const u8,
             flags_len: usize,
+            spans: *mut u32,
+            spans_len: usize,
             out: *mut u8,
             out_len: usize,
         ) -> Shown;
@@ -367,6 +444,7 @@ fn unless_refused<T>(refusal: u8, answer: impl FnOnce() -> T) -> Result<T, Refus
         9 => Refusal::CutOff,
         10 => Refusal::NotEnded,
         11 => Refusal::NotNarrow,
+        12 => Refusal::WrongSpans,
         _ => unreachable!(),
     })
 }
@@ -429,7 +507,21 @@ fn record(got: c::Record) -> Record {
     }
 }
 
-// Each call below lends whole slices for its time: a pointer that is not null, the length in bytes, and an output buffer that is no other slice's.
+// How many numbers a span has.
+const SPAN_NUMBERS: usize = 3;
+
+// The numbers of spans, as C has them. By repr(C) a span is its three numbers, with nothing between or behind them, and is aligned as they are. A slice has at most
+// isize::MAX bytes, so that three times its length is no overflow.
+fn numbers(spans: &[Span]) -> &[u32] {
+    unsafe { slice::from_raw_parts(spans.as_ptr().cast(), spans.len() * SPAN_NUMBERS) }
+}
+
+// The same, to be written to: any three numbers are a span.
+fn numbers_mut(spans: &mut [Span]) -> &mut [u32] {
+    unsafe { slice::from_raw_parts_mut(spans.as_mut_ptr().cast(), spans.len() * SPAN_NUMBERS) }
+}
+
+// Each call below lends whole slices for its time: a pointer that is not null, the length in bytes or numbers, and what is written to is no other slice's.
 
 /// The number of lines of a text of any length: as many flags as a bulletin takes. An empty text has one line.
 ///
@@ -568,37 +660,143 @@ pub fn narrow_trace(trace: &[u8], out: &mut [u8]) -> Result<usize, Refusal> {
     unless_refused(got.refusal, || got.length)
 }
 
-/// Writes the bulletin without its raw HTML. In a paragraph a `<` behind an odd number of backslashes in a row is text. Room for the bulletin's length always
-/// suffices. Refusals 1, 2, 3, 7.
+/// Finds what is withheld, so that a screen can show the rest and draw a bar where something is not, and gives the number of spans. Refusals 1, 2, 3, 7.
+///
+/// A piece is a block or an inline piece. The list is filled from its front with the span of each, in text order: they do not overlap, though two may touch. Room for
+/// `bulletin.len()` spans always suffices. In a paragraph a `<` behind an odd number of backslashes in a row is text, in both readings, for withholding and for the
+/// filter too.
 ///
 /// ```
-/// use foringamo::{withhold, Shown};
+/// use foringamo::{find, Refusal, Span};
 ///
-/// let mut out = [0; 10];
-/// assert_eq!(withhold(b"a<b>c</b>", &[0], &mut out), Ok(Shown { length: 2, pieces: 2 }));
-/// assert_eq!(&out[..2], b"ac");
-/// assert_eq!(withhold(br"a\<b>c", &[0], &mut out), Ok(Shown { length: 6, pieces: 0 }));
-/// assert_eq!(withhold(br"a\\<b>c", &[0], &mut out), Ok(Shown { length: 4, pieces: 1 }));
+/// let mut spans = [Span::default(); 9];
+/// assert_eq!(find(b"a<b>c</b>", &[0], &mut spans), Ok(2));
+/// assert_eq!(spans[..2], [Span { start: 1, stop: 4, sort: 0 }, Span { start: 5, stop: 9, sort: 0 }]);
+/// assert_eq!(find(b"a<b>c</b>", &[0], &mut spans[..1]), Err(Refusal::NoRoom));
+/// assert_eq!(find(br"a\<b>c", &[0], &mut spans), Ok(0));
+/// assert_eq!(find(br"a\\<b>c", &[0], &mut spans), Ok(1));
 /// ```
-pub fn withhold(bulletin: &[u8], flags: &[u8], out: &mut [u8]) -> Result<Shown, Refusal> {
+pub fn find(bulletin: &[u8], flags: &[u8], spans: &mut [Span]) -> Result<usize, Refusal> {
+    let spans = numbers_mut(spans);
     let got = unsafe {
-        c::foringamo_withhold(bulletin.as_ptr(), bulletin.len(), flags.as_ptr(), flags.len(), out.as_mut_ptr(), out.len())
+        c::foringamo_find(bulletin.as_ptr(), bulletin.len(), flags.as_ptr(), flags.len(), spans.as_mut_ptr(), spans.len())
+    };
+    unless_refused(got.refusal, || got.count)
+}
+
+/// [`find`] by the standard, over its own blocks and inline pieces. Refusals 1, 2, 3, 7.
+///
+/// ```
+/// use foringamo::{find, standard_find, Span};
+///
+/// let mut spans = [Span::default(); 11];
+/// assert_eq!(standard_find(b"a <b c=d/e>", &[0], &mut spans), Ok(1));
+/// assert_eq!(spans[0].range(), 2..11);
+/// assert_eq!(find(b"a <b c=d/e>", &[0], &mut spans), Ok(0));
+/// ```
+pub fn standard_find(bulletin: &[u8], flags: &[u8], spans: &mut [Span]) -> Result<usize, Refusal> {
+    let spans = numbers_mut(spans);
+    let got = unsafe {
+        c::foringamo_standard_find(bulletin.as_ptr(), bulletin.len(), flags.as_ptr(), flags.len(), spans.as_mut_ptr(), spans.len())
+    };
+    unless_refused(got.refusal, || got.count)
+}
+
+/// Writes the bytes of a bulletin that no span holds, in their order, and gives their number. Pass the spans that were found, not the whole list; spans from elsewhere
+/// are taken too, and their sort is checked but makes no difference. Room for the bulletin's length always suffices. Refusals 1, 12, 7.
+///
+/// ```
+/// use foringamo::{show, Refusal, Span};
+///
+/// let (bulletin, mut out) = (b"berth 12, bay 3", [0; 15]);
+/// assert_eq!(show(bulletin, &[Span { start: 5, stop: 9, sort: 0 }], &mut out), Ok(11));
+/// assert_eq!(&out[..11], b"berth bay 3");
+/// assert_eq!(show(bulletin, &[Span::default()], &mut out), Err(Refusal::WrongSpans));
+/// ```
+pub fn show(bulletin: &[u8], spans: &[Span], out: &mut [u8]) -> Result<usize, Refusal> {
+    let spans = numbers(spans);
+    let got = unsafe {
+        c::foringamo_show(bulletin.as_ptr(), bulletin.len(), spans.as_ptr(), spans.len(), out.as_mut_ptr(), out.len())
+    };
+    unless_refused(got.refusal, || got.length)
+}
+
+/// The stretch of a number, counted from 0, as a part of the bulletin itself: what is shown before the span of that number, or after the last one. There is one more
+/// than there are spans, and all of them, one after the other, are what [`show`] writes.
+///
+/// A stretch can be empty, where two spans touch, or one begins or ends the bulletin. It is empty too for a number past the last, and for a bulletin or spans that
+/// [`show`] refuses by 1 or 12. Each call looks through all spans: a caller of many reads their ends from the list instead, start from the stop before and stop from
+/// the next start.
+///
+/// ```
+/// use foringamo::{find, stretch, Span};
+///
+/// let (bulletin, mut spans) = (b"door <!-- x -->9", [Span::default(); 16]);
+/// let count = find(bulletin, &[0], &mut spans)?;
+/// assert_eq!(stretch(bulletin, &spans[..count], 0), b"door ");
+/// assert_eq!(stretch(bulletin, &spans[..count], 1), b"9");
+/// assert_eq!(stretch(bulletin, &spans[..count], 2), b"");
+/// # Ok::<(), foringamo::Refusal>(())
+/// ```
+pub fn stretch<'a>(bulletin: &'a [u8], spans: &[Span], number: usize) -> &'a [u8] {
+    let spans = numbers(spans);
+    let got = unsafe { c::foringamo_stretch(bulletin.as_ptr(), bulletin.len(), spans.as_ptr(), spans.len(), number) };
+    &bulletin[got.start..][..got.length]
+}
+
+/// Writes the bulletin without its raw HTML: [`find`], and then [`show`] beside what was found. A refusal leaves the list as it was, too. Room for `bulletin.len()`
+/// spans and as many bytes always suffices. Refusals 1, 2, 3, 7.
+///
+/// Two bulletins that differ only in bytes kept private within a withheld piece show alike, and their lists have as many spans. But a list tells how long each piece
+/// is, and so does a bar of that length: do not show either where a length is private.
+///
+/// ```
+/// use foringamo::{withhold, Shown, Span};
+///
+/// let (mut spans, mut out) = ([Span::default(); 9], [0; 9]);
+/// assert_eq!(withhold(b"a<b>c</b>", &[0], &mut spans, &mut out), Ok(Shown { length: 2, pieces: 2 }));
+/// assert_eq!(&out[..2], b"ac");
+/// assert_eq!(spans[1], Span { start: 5, stop: 9, sort: 0 });
+/// ```
+pub fn withhold(bulletin: &[u8], flags: &[u8], spans: &mut [Span], out: &mut [u8]) -> Result<Shown, Refusal> {
+    let spans = numbers_mut(spans);
+    let got = unsafe {
+        c::foringamo_withhold(
+            bulletin.as_ptr(),
+            bulletin.len(),
+            flags.as_ptr(),
+            flags.len(),
+            spans.as_mut_ptr(),
+            spans.len(),
+            out.as_mut_ptr(),
+            out.len(),
+        )
     };
     unless_refused(got.refusal, || shown(got))
 }
 
-/// [`withhold`] by the standard, over its own blocks and inline pieces. Refusals 1, 2, 3, 7.
+/// [`withhold`] by the standard: [`standard_find`], and then [`show`]. Refusals 1, 2, 3, 7.
 ///
 /// ```
-/// use foringamo::{standard_withhold, withhold, Shown};
+/// use foringamo::{standard_withhold, withhold, Shown, Span};
 ///
-/// let mut out = [0; 11];
-/// assert_eq!(standard_withhold(b"a <b c=d/e>", &[0], &mut out), Ok(Shown { length: 2, pieces: 1 }));
-/// assert_eq!(withhold(b"a <b c=d/e>", &[0], &mut out), Ok(Shown { length: 11, pieces: 0 }));
+/// let (mut spans, mut out) = ([Span::default(); 11], [0; 11]);
+/// assert_eq!(standard_withhold(b"a <b c=d/e>", &[0], &mut spans, &mut out), Ok(Shown { length: 2, pieces: 1 }));
+/// assert_eq!(withhold(b"a <b c=d/e>", &[0], &mut spans, &mut out), Ok(Shown { length: 11, pieces: 0 }));
 /// ```
-pub fn standard_withhold(bulletin: &[u8], flags: &[u8], out: &mut [u8]) -> Result<Shown, Refusal> {
+pub fn standard_withhold(bulletin: &[u8], flags: &[u8], spans: &mut [Span], out: &mut [u8]) -> Result<Shown, Refusal> {
+    let spans = numbers_mut(spans);
     let got = unsafe {
-        c::foringamo_standard_withhold(bulletin.as_ptr(), bulletin.len(), flags.as_ptr(), flags.len(), out.as_mut_ptr(), out.len())
+        c::foringamo_standard_withhold(
+            bulletin.as_ptr(),
+            bulletin.len(),
+            flags.as_ptr(),
+            flags.len(),
+            spans.as_mut_ptr(),
+            spans.len(),
+            out.as_mut_ptr(),
+            out.len(),
+        )
     };
     unless_refused(got.refusal, || shown(got))
 }
@@ -630,8 +828,8 @@ pub fn filter(bulletin: &[u8], flags: &[u8], out: &mut [u8]) -> Result<usize, Re
 
 #[cfg(test)]
 mod tests {
-    use super::c;
-    use core::mem::{offset_of, size_of};
+    use super::{c, Span, SPAN_NUMBERS};
+    use core::mem::{align_of, offset_of, size_of};
 
     // As tests/interface.c has it of include/foringamo.h.
     #[test]
@@ -651,5 +849,16 @@ mod tests {
         assert_eq!([offset_of!(c::Record, line), offset_of!(c::Record, column), offset_of!(c::Record, index)], [8, 16, 24]);
         assert_eq!(size_of::<c::Shown>(), 24);
         assert_eq!([offset_of!(c::Shown, refusal), offset_of!(c::Shown, length), offset_of!(c::Shown, pieces)], [0, 8, 16]);
+        assert_eq!(size_of::<c::Spans>(), 16);
+        assert_eq!([offset_of!(c::Spans, refusal), offset_of!(c::Spans, count)], [0, 8]);
+        assert_eq!(size_of::<c::Part>(), 16);
+        assert_eq!([offset_of!(c::Part, start), offset_of!(c::Part, length)], [0, 8]);
+    }
+
+    // A span is three numbers, and nothing else.
+    #[test]
+    fn spans_are_numbers() {
+        assert_eq!((size_of::<Span>(), align_of::<Span>()), (SPAN_NUMBERS * size_of::<u32>(), align_of::<u32>()));
+        assert_eq!([offset_of!(Span, start), offset_of!(Span, stop), offset_of!(Span, sort)], [0, 4, 8]);
     }
 }

@@ -2,13 +2,21 @@
 #![forbid(unsafe_code)]
 
 use std::fmt::Debug;
+use std::ops::Range;
 
 use foringamo::{
-    block_scan, block_trace, count_lines, filter, inline_scan, inline_trace, narrow_trace, read_trace, standard_block_scan, standard_inline_scan,
-    standard_withhold, widen_trace, withhold, Block, Inline, Kind, Name, Point, Record, Refusal, Shown, BLOCK_NAMES, INTERRUPT, LAZY, LIMIT, RAW_NAMES,
+    block_scan, block_trace, count_lines, filter, find, inline_scan, inline_trace, narrow_trace, read_trace, show, standard_block_scan, standard_find,
+    standard_inline_scan, standard_withhold, stretch, widen_trace, withhold, Block, Inline, Kind, Name, Point, Record, Refusal, Shown, Span, BLOCK_NAMES,
+    INTERRUPT, LAZY, LIMIT, RAW_NAMES,
 };
 
+// What stands in a buffer before, and in a list of spans.
 const FILL: u8 = 0xee;
+const FILL_SPAN: Span = span(0xeeee_eeee, 0xeeee_eeef, 0xeeee_eef0);
+
+const fn span(start: u32, stop: u32, sort: u32) -> Span {
+    Span { start, stop, sort }
+}
 
 // The length of a trace of four events, which a piece within a line has.
 const WITHIN: usize = 4 * 14 + 6;
@@ -18,18 +26,26 @@ fn long() -> Vec<u8> {
     vec![b'a'; LIMIT + 1]
 }
 
+// Whether a buffer or a list has these in front, and the rest is as it was.
+fn begins<T: Copy + PartialEq>(got: &[T], front: &[T], fill: T) -> bool {
+    got[..front.len()] == *front && got[front.len()..].iter().all(|&rest| rest == fill)
+}
+
 // With each room up to one that is more than enough: the answer, with the output in front and the rest as it was, or a refusal where it does not fit.
-fn in_every_room<T: Copy + Debug + PartialEq>(most: usize, shown: &[u8], answer: T, call: impl Fn(&mut [u8]) -> Result<T, Refusal>) {
+fn in_every_room<B, T>(fill: B, most: usize, output: &[B], answer: T, call: impl Fn(&mut [B]) -> Result<T, Refusal>)
+where
+    B: Copy + PartialEq,
+    T: Copy + Debug + PartialEq,
+{
     for room in 0..=most {
-        let mut out = vec![FILL; room];
+        let mut out = vec![fill; room];
         let got = call(&mut out);
-        if room < shown.len() {
+        if room < output.len() {
             assert_eq!(got, Err(Refusal::NoRoom));
-            assert!(out.iter().all(|&b| b == FILL));
+            assert!(begins(&out, &[], fill));
         } else {
             assert_eq!(got, Ok(answer));
-            assert_eq!(&out[..shown.len()], shown);
-            assert!(out[shown.len()..].iter().all(|&b| b == FILL));
+            assert!(begins(&out, output, fill));
         }
     }
 }
@@ -49,9 +65,9 @@ fn lines() {
     ] {
         assert_eq!(count_lines(text), lines, "{text:?}");
         let mut out = [0; 16];
-        assert!(withhold(text, &vec![0; lines], &mut out).is_ok(), "{text:?}");
-        assert_eq!(withhold(text, &vec![0; lines + 1], &mut out), Err(Refusal::WrongCount), "{text:?}");
-        assert_eq!(withhold(text, &vec![0; lines - 1], &mut out), Err(Refusal::WrongCount), "{text:?}");
+        assert!(withhold(text, &vec![0; lines], &mut [], &mut out).is_ok(), "{text:?}");
+        assert_eq!(withhold(text, &vec![0; lines + 1], &mut [], &mut out), Err(Refusal::WrongCount), "{text:?}");
+        assert_eq!(withhold(text, &vec![0; lines - 1], &mut [], &mut out), Err(Refusal::WrongCount), "{text:?}");
     }
     assert_eq!(count_lines(&vec![b'\n'; LIMIT + 1]), LIMIT + 2);
 }
@@ -66,12 +82,17 @@ fn limit() {
         let missing = Ok(Inline::Missing { carry: 0 });
         for withhold in [withhold, standard_withhold] {
             out.fill(FILL);
-            assert_eq!(withhold(text, &[0], &mut out), Ok(Shown { length, pieces: 0 }));
-            assert!(out[..length] == *text && out[length..].iter().all(|&b| b == FILL));
+            assert_eq!(withhold(text, &[0], &mut [], &mut out), Ok(Shown { length, pieces: 0 }));
+            assert!(begins(&out, text, FILL));
         }
+        assert_eq!((find(text, &[0], &mut []), standard_find(text, &[0], &mut [])), (Ok(0), Ok(0)));
+        out.fill(FILL);
+        assert_eq!(show(text, &[], &mut out), Ok(length));
+        assert!(begins(&out, text, FILL));
+        assert_eq!(place(text, stretch(text, &[], 0)), (0, length));
         out.fill(FILL);
         assert_eq!(filter(text, &[0], &mut out), Ok(length));
-        assert!(out[..length] == *text && out[length..].iter().all(|&b| b == FILL));
+        assert!(begins(&out, text, FILL));
         assert_eq!((block_scan(text, &[0], 0), standard_block_scan(text, &[0], 0)), (Ok(None), Ok(None)));
         assert_eq!((inline_scan(text, length, 0), standard_inline_scan(text, length, 0)), (missing, missing));
         let traced = block_trace(text, &[0], 0, &mut out).expect("not refused");
@@ -81,13 +102,19 @@ fn limit() {
     }
 }
 
-// One byte above it every function refuses the text, and no byte of the buffer changes.
+// One byte above it every function refuses the text, and nothing changes in the buffer or the list.
 #[test]
 fn above_the_limit() {
     let text = long();
     let mut out = vec![FILL; text.len()];
-    assert_eq!(withhold(&text, &[0], &mut out), Err(Refusal::TooLong));
-    assert_eq!(standard_withhold(&text, &[0], &mut out), Err(Refusal::TooLong));
+    let mut list = [FILL_SPAN; 4];
+    assert_eq!(find(&text, &[0], &mut list), Err(Refusal::TooLong));
+    assert_eq!(standard_find(&text, &[0], &mut list), Err(Refusal::TooLong));
+    assert_eq!(show(&text, &[], &mut out), Err(Refusal::TooLong));
+    assert_eq!(show(&text, &[FILL_SPAN], &mut []), Err(Refusal::TooLong));
+    assert_eq!(place(&text, stretch(&text, &[span(4, 9, 0)], 1)), (0, 0));
+    assert_eq!(withhold(&text, &[0], &mut list, &mut out), Err(Refusal::TooLong));
+    assert_eq!(standard_withhold(&text, &[0], &mut list, &mut out), Err(Refusal::TooLong));
     assert_eq!(filter(&text, &[0], &mut out), Err(Refusal::TooLong));
     assert_eq!(block_scan(&text, &[0], 0), Err(Refusal::TooLong));
     assert_eq!(standard_block_scan(&text, &[0], 0), Err(Refusal::TooLong));
@@ -95,17 +122,327 @@ fn above_the_limit() {
     assert_eq!(standard_inline_scan(&text, 0, 0), Err(Refusal::TooLong));
     assert_eq!(block_trace(&text, &[0], 0, &mut out), Err(Refusal::TooLong));
     assert_eq!(inline_trace(&text, 0, 0, &mut out), Err(Refusal::TooLong));
-    assert!(out.iter().all(|&b| b == FILL));
+    assert!(begins(&out, &[], FILL) && list == [FILL_SPAN; 4]);
+}
+
+// The added screen, what is withheld from it, and what is shown.
+const SCREEN: &[u8] = b"door <!-- x -->9\n<div>\nold\n\nok";
+const BARS: [Span; 2] = [span(5, 15, 0), span(17, 26, 1)];
+const SHOWN: &[u8] = b"door 9\n\n\nok";
+
+type Find = fn(&[u8], &[u8], &mut [Span]) -> Result<usize, Refusal>;
+type Withhold = fn(&[u8], &[u8], &mut [Span], &mut [u8]) -> Result<Shown, Refusal>;
+type BlockScan = fn(&[u8], &[u8], usize) -> Result<Option<Block>, Refusal>;
+
+// The two readings.
+const READINGS: [(Find, Withhold, BlockScan); 2] = [(find, withhold, block_scan), (standard_find, standard_withhold, standard_block_scan)];
+
+// With every room for spans and every room for bytes, all flags 0: the answer, with what is withheld and what is shown in front and the rest as it was, or a refusal
+// where one of the two does not fit, and both as they were.
+fn withholds(withhold: Withhold, bulletin: &[u8], spans: &[Span], shown: &[u8]) {
+    let flags = vec![0; count_lines(bulletin)];
+    for list_room in 0..=bulletin.len() + 1 {
+        for room in 0..=bulletin.len() + 1 {
+            let (mut list, mut out) = (vec![FILL_SPAN; list_room], vec![FILL; room]);
+            let got = withhold(bulletin, &flags, &mut list, &mut out);
+            if spans.len() <= list_room && shown.len() <= room {
+                assert_eq!(got, Ok(Shown { length: shown.len(), pieces: spans.len() }));
+                assert!(begins(&list, spans, FILL_SPAN) && begins(&out, shown, FILL));
+            } else {
+                assert_eq!(got, Err(Refusal::NoRoom));
+                assert!(begins(&list, &[], FILL_SPAN) && begins(&out, &[], FILL));
+            }
+        }
+    }
 }
 
 #[test]
 fn withheld() {
-    let bulletin = b"door <!-- x -->9\n<div>\nold\n\nok";
-    let shown = b"door 9\n\n\nok";
-    in_every_room(bulletin.len(), shown, Shown { length: shown.len(), pieces: 2 }, |out| withhold(bulletin, &[0; 5], out));
-    assert_eq!(withhold(b"", &[0], &mut []), Ok(Shown { length: 0, pieces: 0 }));
-    assert_eq!(withhold(b"", &[], &mut []), Err(Refusal::WrongCount));
-    assert_eq!(withhold(b"a", &[4], &mut []), Err(Refusal::WrongFlag));
+    for withhold in [withhold, standard_withhold] {
+        withholds(withhold, SCREEN, &BARS, SHOWN);
+        withholds(withhold, b"<a>b</a>", &[span(0, 3, 0), span(4, 8, 0)], b"b");
+        withholds(withhold, b"<?x", &[span(0, 3, 1)], b"");
+        withholds(withhold, br"a\<b>", &[], br"a\<b>");
+        assert_eq!(withhold(b"", &[0], &mut [], &mut []), Ok(Shown { length: 0, pieces: 0 }));
+        assert_eq!(withhold(b"", &[], &mut [], &mut []), Err(Refusal::WrongCount));
+        assert_eq!(withhold(b"<a>", &[4], &mut [], &mut []), Err(Refusal::WrongFlag));
+    }
+}
+
+#[test]
+fn found() {
+    for find in [find, standard_find] {
+        in_every_room(FILL_SPAN, SCREEN.len() + 1, &BARS, 2, |list| find(SCREEN, &[0; 5], list));
+        in_every_room(FILL_SPAN, 9, &[span(0, 3, 0), span(3, 6, 0)], 2, |list| find(b"<a><b>", &[0], list));
+        assert_eq!(find(b"", &[0], &mut []), Ok(0));
+        assert_eq!(find(br"a\<b>", &[0], &mut []), Ok(0));
+        assert_eq!(find(b"", &[], &mut []), Err(Refusal::WrongCount));
+        assert_eq!(find(b"<a>", &[4], &mut []), Err(Refusal::WrongFlag));
+    }
+
+    let most = b"<a>".repeat(LIMIT / 3);
+    let spans: Vec<Span> = (0..LIMIT as u32 / 3).map(|n| span(3 * n, 3 * n + 3, 0)).collect();
+    for room in [spans.len() - 1, spans.len(), most.len()] {
+        let mut list = vec![FILL_SPAN; room];
+        let fits = spans.len() <= room;
+        assert_eq!(find(&most, &[0], &mut list), if fits { Ok(spans.len()) } else { Err(Refusal::NoRoom) });
+        assert!(begins(&list, if fits { &spans } else { &[] }, FILL_SPAN));
+    }
+    assert_eq!(show(&most, &spans, &mut []), Ok(0));
+    assert_eq!(place(&most, stretch(&most, &spans, spans.len())), (most.len(), 0));
+}
+
+#[test]
+fn spans() {
+    assert_eq!(BARS.map(Span::is_block), [false, true]);
+    assert_eq!(BARS.map(|bar| &SCREEN[bar.range()]), [&b"<!-- x -->"[..], b"<div>\nold"]);
+    assert_eq!(Span::default(), span(0, 0, 0));
+    assert_eq!(span(1, u32::MAX, 2).range(), 1..u32::MAX as usize);
+    assert!(!span(0, 1, 2).is_block() && !span(0, 1, u32::MAX).is_block());
+}
+
+// Any spans that are in order are taken, and it makes no difference which of them are blocks.
+#[test]
+fn shown() {
+    in_every_room(FILL, SCREEN.len() + 1, SHOWN, SHOWN.len(), |out| show(SCREEN, &BARS, out));
+    for (spans, shown) in [
+        (&[][..], SCREEN),
+        (&[span(0, 30, 0)], b""),
+        (&[span(0, 28, 1)], b"ok"),
+        (&[span(4, 30, 1)], b"door"),
+        (&[span(5, 15, 1), span(17, 26, 0)], SHOWN),
+        (&[span(0, 5, 0), span(5, 15, 1), span(15, 17, 0), span(17, 26, 1), span(26, 28, 0)], b"ok"),
+    ] {
+        in_every_room(FILL, SCREEN.len() + 1, shown, shown.len(), |out| show(SCREEN, spans, out));
+    }
+    assert_eq!(show(b"", &[], &mut []), Ok(0));
+    assert_eq!(show(b"a", &[], &mut []), Err(Refusal::NoRoom));
+}
+
+// Where a part of a bulletin begins in it, and its length.
+fn place(bulletin: &[u8], part: &[u8]) -> (usize, usize) {
+    (part.as_ptr() as usize - bulletin.as_ptr() as usize, part.len())
+}
+
+// Numbers above that of the last stretch of few spans.
+const ABOVE: [usize; 6] = [6, u32::MAX as usize, 1 << 32, (1 << 32) + 1, usize::MAX / 3 + 1, usize::MAX];
+
+#[test]
+fn stretches() {
+    for (bulletin, spans, places) in [
+        (SCREEN, &BARS[..], &[(0, 5), (15, 2), (26, 4)][..]),
+        (SCREEN, &[], &[(0, 30)]),
+        (SCREEN, &[span(0, 30, 0)], &[(0, 0), (30, 0)]),
+        (b"<a><b>", &[span(0, 3, 0), span(3, 6, 0)], &[(0, 0), (3, 0), (6, 0)]),
+        (b"x<a><b>y", &[span(1, 4, 0), span(4, 7, 0)], &[(0, 1), (4, 0), (7, 1)]),
+        (b"", &[], &[(0, 0)]),
+    ] {
+        for (number, stands) in places.iter().enumerate() {
+            assert_eq!(place(bulletin, stretch(bulletin, spans, number)), *stands, "{bulletin:?} {number}");
+        }
+        for number in [places.len(), places.len() + 1].into_iter().chain(ABOVE) {
+            assert_eq!(place(bulletin, stretch(bulletin, spans, number)), (0, 0), "{bulletin:?} {number}");
+        }
+    }
+    assert_eq!([0, 1, 2, 3, usize::MAX].map(|number| stretch(SCREEN, &BARS, number)), [&b"door "[..], b"9\n", b"\n\nok", b"", b""]);
+}
+
+// Lists that showing refuses by 12, in every room; each of their stretches is empty, and stands at the front.
+#[test]
+fn wrong_spans() {
+    const MOST: u32 = u32::MAX;
+    let [one, two] = BARS;
+    for spans in [
+        // Out of order; overlapping by a byte, by all, with one within another.
+        &[two, one][..],
+        &[one, span(14, 26, 1)],
+        &[one, one],
+        &[one, span(6, 14, 0)],
+        &[span(6, 14, 0), one],
+        // Past the end.
+        &[one, span(17, 31, 1)],
+        &[span(30, 31, 0)],
+        &[span(31, 32, 0)],
+        &[span(5, MOST, 0)],
+        &[span(MOST - 1, MOST, 1)],
+        &[one, span(17, MOST, 1)],
+        // With a stop not above the start.
+        &[Span::default()],
+        &[span(5, 5, 0), two],
+        &[span(30, 30, 0)],
+        &[span(15, 5, 0)],
+        &[span(MOST, MOST, 0)],
+        &[span(MOST, 15, 0), two],
+        &[one, two, Span::default()],
+        // Of a sort above 1.
+        &[span(5, 15, 2), two],
+        &[one, span(17, 26, MOST)],
+        &[one, span(17, 26, 1 << 16)],
+        // A list with what was there before behind what was found.
+        &[one, two, FILL_SPAN],
+    ] {
+        for room in 0..=SCREEN.len() + 1 {
+            let mut out = vec![FILL; room];
+            assert_eq!(show(SCREEN, spans, &mut out), Err(Refusal::WrongSpans), "{spans:?}");
+            assert!(begins(&out, &[], FILL));
+        }
+        for number in (0..6).chain(ABOVE) {
+            assert_eq!(place(SCREEN, stretch(SCREEN, spans, number)), (0, 0), "{spans:?}");
+        }
+    }
+}
+
+// Pseudo-random numbers.
+struct Random(u32);
+
+impl Random {
+    fn below(&mut self, bound: usize) -> usize {
+        self.0 = self.0.wrapping_mul(1_664_525).wrapping_add(1_013_904_223);
+        (self.0 >> 8) as usize % bound
+    }
+}
+
+// In both readings: withholding is finding and then showing, in room that just suffices, and refused with less; the spans are those of pieces, in order, and the
+// stretches are all that stands beside them. Gives how many spans each reading finds.
+fn in_turn(bulletin: &[u8], flags: &[u8]) -> [usize; 2] {
+    READINGS.map(|(find, withhold, block_scan)| {
+        let mut spans = vec![FILL_SPAN; bulletin.len()];
+        let count = find(bulletin, flags, &mut spans).expect("not refused");
+        assert!(begins(&spans[count..], &[], FILL_SPAN));
+        spans.truncate(count);
+        in_every_room(FILL_SPAN, count + 1, &spans, count, |list| find(bulletin, flags, list));
+
+        let mut shown = vec![FILL; bulletin.len()];
+        let length = show(bulletin, &spans, &mut shown).expect("not refused");
+        assert!(begins(&shown[length..], &[], FILL));
+        shown.truncate(length);
+        for (list_room, room) in [(count, length), (bulletin.len(), length), (count, bulletin.len()), (bulletin.len(), bulletin.len())] {
+            let (mut list, mut out) = (vec![FILL_SPAN; list_room], vec![FILL; room]);
+            assert_eq!(withhold(bulletin, flags, &mut list, &mut out), Ok(Shown { length, pieces: count }));
+            assert!(begins(&list, &spans, FILL_SPAN) && begins(&out, &shown, FILL));
+        }
+        for (list_room, room) in [(count.checked_sub(1), Some(length)), (Some(count), length.checked_sub(1))] {
+            let (Some(list_room), Some(room)) = (list_room, room) else { continue };
+            let (mut list, mut out) = (vec![FILL_SPAN; list_room], vec![FILL; room]);
+            assert_eq!(withhold(bulletin, flags, &mut list, &mut out), Err(Refusal::NoRoom));
+            assert!(begins(&list, &[], FILL_SPAN) && begins(&out, &[], FILL));
+        }
+
+        let mut from = 0;
+        for (number, span) in spans.iter().enumerate() {
+            let piece = span.range();
+            assert!(from <= piece.start && piece.start < piece.end && piece.end <= bulletin.len());
+            if span.is_block() {
+                let block = block_scan(bulletin, flags, piece.start).expect("not refused");
+                assert_eq!(block.map(|block| block.stop), Some(piece.end));
+            } else {
+                assert_eq!((span.sort, bulletin[piece.start]), (0, b'<'));
+            }
+            assert_eq!(place(bulletin, stretch(bulletin, &spans, number)), (from, piece.start - from));
+            from = piece.end;
+        }
+        assert_eq!(place(bulletin, stretch(bulletin, &spans, count)), (from, bulletin.len() - from));
+        let stretches: Vec<&[u8]> = (0..=count).map(|number| stretch(bulletin, &spans, number)).collect();
+        assert_eq!(stretches.concat(), shown);
+        count
+    })
+}
+
+#[test]
+fn found_then_shown() {
+    for (bulletin, pieces) in [
+        (SCREEN, [2, 2]),
+        (b"", [0, 0]),
+        (b"\r\n\r", [0, 0]),
+        (b"<a><b>", [2, 2]),
+        (b"<a>\n\n<b>\r\n\r\n<!-- c", [3, 3]),
+        (b"a <b c=d/e>\n<pre/>\n<i 1>", [1, 2]),
+        (b"<div>\n\n<![CDATA[x]]]>\n\ny</div>", [2, 3]),
+        (br"\<a> \\<b> \\\<c>", [1, 1]),
+        (b"\xff<a>\0</a>\xfe", [2, 2]),
+    ] {
+        assert_eq!(in_turn(bulletin, &vec![0; count_lines(bulletin)]), pieces, "{bulletin:?}");
+    }
+}
+
+// Of many bulletins put together of such parts, with any flags.
+#[test]
+fn random_bulletins() {
+    const PARTS: [&str; 24] = [
+        "<a>", "<b c=\"d\">", "<b c=d/e>", "</a>", "<pre/>", "<pre>", "</pre>", "<div>", "<!--", "-->", "<?", "?>", "<!x", ">", "<![CDATA[", "]]>",
+        "\\", "\n", "\n", "\n\n", "\r\n", " ", "x", "é",
+    ];
+    let mut random = Random(1);
+    let (mut pieces, mut differ) = (0, 0);
+    for _ in 0..5_000 {
+        let bulletin: String = (0..random.below(16)).map(|_| PARTS[random.below(PARTS.len())]).collect();
+        let flags: Vec<u8> = (0..count_lines(bulletin.as_bytes())).map(|_| if random.below(2) == 0 { 0 } else { random.below(4) as u8 }).collect();
+        let [rust, standard] = in_turn(bulletin.as_bytes(), &flags);
+        pieces += rust;
+        differ += usize::from(rust != standard);
+    }
+    assert!(pieces > 5_000 && differ > 100, "{pieces} {differ}");
+}
+
+// The places of the stretches; none where the spans are refused.
+fn stretches_of(bulletin: &[u8], spans: &[Span]) -> Option<Vec<(usize, usize)>> {
+    let mut from = 0;
+    let mut stretches = vec![];
+    for span in spans {
+        let Range { start, end } = span.range();
+        if start < from || end <= start || end > bulletin.len() || span.sort > 1 {
+            return None;
+        }
+        stretches.push((from, start - from));
+        from = end;
+    }
+    stretches.push((from, bulletin.len() - from));
+    Some(stretches)
+}
+
+// Of many lists of spans that were not found, one half of them in order, the other with one number changed.
+#[test]
+fn random_spans() {
+    let bulletin = b"0123456789abcdef";
+    let mut random = Random(2);
+    let mut taken = 0;
+    for _ in 0..20_000 {
+        let mut spans = vec![];
+        let mut from = 0;
+        while from < bulletin.len() && random.below(4) > 0 {
+            let start = from + random.below((bulletin.len() - from).min(4));
+            from = start + 1 + random.below((bulletin.len() - start).min(4));
+            spans.push(span(start as u32, from as u32, random.below(2) as u32));
+        }
+        if !spans.is_empty() && random.below(2) == 0 {
+            let changed = random.below(spans.len());
+            let number = if random.below(8) == 0 { u32::MAX - random.below(3) as u32 } else { random.below(20) as u32 };
+            match random.below(3) {
+                0 => spans[changed].start = number,
+                1 => spans[changed].stop = number,
+                _ => spans[changed].sort = number,
+            }
+        }
+
+        let mut out = [FILL; 16];
+        let got = show(bulletin, &spans, &mut out);
+        let known = stretches_of(bulletin, &spans);
+        if let Some(stretches) = &known {
+            taken += 1;
+            let shown = stretches.iter().map(|&(start, length)| &bulletin[start..][..length]).collect::<Vec<_>>().concat();
+            assert_eq!(got, Ok(shown.len()), "{spans:?}");
+            assert!(begins(&out, &shown, FILL));
+            in_every_room(FILL, shown.len() + 1, &shown, shown.len(), |out| show(bulletin, &spans, out));
+        } else {
+            assert_eq!(got, Err(Refusal::WrongSpans), "{spans:?}");
+            assert!(begins(&out, &[], FILL));
+        }
+        for number in 0..spans.len() + 2 {
+            let stands = known.as_ref().and_then(|stretches| stretches.get(number).copied());
+            assert_eq!(place(bulletin, stretch(bulletin, &spans, number)), stands.unwrap_or((0, 0)), "{spans:?}");
+        }
+    }
+    assert!(taken > 5_000 && taken < 19_000, "{taken}");
 }
 
 // What the filter makes of a bulletin, all flags 0, with the room that always suffices.
@@ -122,7 +459,7 @@ fn filtered_of(bulletin: &[u8]) -> Vec<u8> {
 fn filtered() {
     let bulletin = b"<strong> <title> <style> <em>\n\n<blockquote>\n  <xmp> is disallowed.  <XMP> is also disallowed.\n</blockquote>\n";
     let shown = b"<strong> &lt;title> &lt;style> <em>\n\n<blockquote>\n  &lt;xmp> is disallowed.  &lt;XMP> is also disallowed.\n</blockquote>\n";
-    in_every_room(bulletin.len() * 8 / 5, shown, shown.len(), |out| filter(bulletin, &[0; 6], out));
+    in_every_room(FILL, bulletin.len() * 8 / 5, shown, shown.len(), |out| filter(bulletin, &[0; 6], out));
     assert_eq!(filter(b"", &[0], &mut []), Ok(0));
     assert_eq!(filter(b"", &[], &mut []), Err(Refusal::WrongCount));
     assert_eq!(filter(b"a", &[4], &mut []), Err(Refusal::WrongFlag));
@@ -271,13 +608,14 @@ fn standard_inlines() {
 #[test]
 fn standard_withheld() {
     let bulletin = b"a <b c=d/e>\n<pre/>\n<i 1>";
-    let (rust, standard) = (b"a <b c=d/e>\n", b"a \n\n<i 1>");
-    in_every_room(bulletin.len(), standard, Shown { length: standard.len(), pieces: 2 }, |out| standard_withhold(bulletin, &[0; 3], out));
-    in_every_room(bulletin.len(), rust, Shown { length: rust.len(), pieces: 1 }, |out| withhold(bulletin, &[0; 3], out));
-    let mut out = [];
-    assert_eq!(standard_withhold(&long(), &[0], &mut out), Err(Refusal::TooLong));
-    assert_eq!(standard_withhold(b"a", &[0, 0], &mut out), Err(Refusal::WrongCount));
-    assert_eq!(standard_withhold(b"a", &[4], &mut out), Err(Refusal::WrongFlag));
+    let (rust, standard) = (&[span(12, 24, 1)], &[span(2, 11, 0), span(12, 18, 0)]);
+    in_every_room(FILL_SPAN, bulletin.len() + 1, standard, 2, |list| standard_find(bulletin, &[0; 3], list));
+    in_every_room(FILL_SPAN, bulletin.len() + 1, rust, 1, |list| find(bulletin, &[0; 3], list));
+    withholds(standard_withhold, bulletin, standard, b"a \n\n<i 1>");
+    withholds(withhold, bulletin, rust, b"a <b c=d/e>\n");
+    assert_eq!(standard_withhold(&long(), &[0], &mut [], &mut []), Err(Refusal::TooLong));
+    assert_eq!(standard_withhold(b"a", &[0, 0], &mut [], &mut []), Err(Refusal::WrongCount));
+    assert_eq!(standard_withhold(b"a", &[4], &mut [], &mut []), Err(Refusal::WrongFlag));
 }
 
 #[test]
@@ -389,8 +727,8 @@ fn trace_of(records: &[Record], width: usize) -> Vec<u8> {
 // In every room, the records go across both ways.
 fn cross(records: &[Record]) {
     let (narrow, wide) = (trace_of(records, NARROW), trace_of(records, WIDE));
-    in_every_room(wide.len() + 1, &wide, wide.len(), |out| widen_trace(&narrow, out));
-    in_every_room(narrow.len() + 1, &narrow, narrow.len(), |out| narrow_trace(&wide, out));
+    in_every_room(FILL, wide.len() + 1, &wide, wide.len(), |out| widen_trace(&narrow, out));
+    in_every_room(FILL, narrow.len() + 1, &narrow, narrow.len(), |out| narrow_trace(&wide, out));
 }
 
 #[test]
@@ -494,11 +832,12 @@ fn refusals() {
         Refusal::CutOff,
         Refusal::NotEnded,
         Refusal::NotNarrow,
+        Refusal::WrongSpans,
     ];
     for (number, refusal) in (1..).zip(all) {
         assert_eq!(refusal.number(), number);
         assert!(!refusal.to_string().is_empty());
     }
     let error: Box<dyn std::error::Error> = Box::new(Refusal::NoRoom);
-    assert_eq!(error.to_string(), "the output buffer is shorter than the output needs");
+    assert_eq!(error.to_string(), "the output buffer, or the list of spans, is shorter than the output needs");
 }
