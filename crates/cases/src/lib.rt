@@ -4,6 +4,7 @@
 mod case;
 mod conversions;
 mod escape;
+mod found;
 mod hex;
 mod lines;
 mod readers;
@@ -12,5 +13,4 @@ pub mod run;
 mod scans;
 mod screens;
 mod show;
-mod spans;
 mod traces;

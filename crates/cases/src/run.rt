@@ -20,16 +20,16 @@
 //     T    what begins at the index, by the lent step with none of the changes (readers.rt)
 //     f    whether a line of a block of the digit's kind has its closer, by the lent step with all eight changes (readers.rt)
 //     F    the same with none of the changes (readers.rt)
-//     q    the stretch of the index; the digits are the numbers of the spans (spans.rt)
+//     q    the stretch of the index; the digits are the numbers of the spans (found.rt)
 //
 // `ROOM LENGTH FLAGS TEXT`, the same with two numbers; the text comes again and again up to the length:
 //
 //     w    withholding (screens.rt)
 //     W    withholding by the standard (screens.rt)
 //     g    GitHub's tag filter (screens.rt)
-//     u    finding; the room is that of the list, in numbers (spans.rt)
-//     U    finding by the standard (spans.rt)
-//     o    showing beside spans; the digits are their numbers (spans.rt)
+//     u    finding; the room is that of the list, in numbers (found.rt)
+//     U    finding by the standard (found.rt)
+//     o    showing beside spans; the digits are their numbers (found.rt)
 //
 // Hexadecimal: INDEX of three bytes, COUNT of one, ROOM of three, high byte first, as many flags as COUNT says, and the text. The carry of an inline scan is its
 // one flag.
@@ -47,7 +47,7 @@
 // a function in the file of its topic.
 use crate::case::Case;
 use crate::scans::Part;
-use crate::{lines, readers, recorded, scans, screens, spans, traces};
+use crate::{found, lines, readers, recorded, scans, screens, traces};
 use rules::{crate_rules, standard_rules};
 use std::alloc::Global;
 use std::io;
@@ -78,10 +78,10 @@ fn answer(alloc: Global, out: &mut impl Write, letter: u8, case: &Case) -> io::R
         b'w' => screens::withheld(alloc, out, case, crate_rules()),
         b'W' => screens::withheld(alloc, out, case, standard_rules()),
         b'g' => screens::filtered(alloc, out, case),
-        b'u' => spans::found(alloc, out, case, crate_rules()),
-        b'U' => spans::found(alloc, out, case, standard_rules()),
-        b'o' => spans::shown(alloc, out, case),
-        b'q' => spans::part(alloc, out, case),
+        b'u' => found::found(alloc, out, case, crate_rules()),
+        b'U' => found::found(alloc, out, case, standard_rules()),
+        b'o' => found::shown(alloc, out, case),
+        b'q' => found::part(alloc, out, case),
         b'I' => traces::written(alloc, out, case, traces::inline),
         b'B' => traces::written(alloc, out, case, traces::block),
         b'e' => traces::record(out, case),

@@ -11,8 +11,8 @@ use Rattle.foringamo.specs.declared.block.BlockResult.{BlockResult}
 use Rattle.foringamo.specs.declared.inline.InlineResult.{InlineResult}
 use Rattle.foringamo.specs.declared.record.RecordResult.{RecordResult}
 use Rattle.foringamo.specs.declared.shown.ShownResult.{ShownResult}
-use Rattle.foringamo.specs.declared.spans.SpansResult.{SpansResult}
-use Rattle.foringamo.specs.declared.spans.PartResult.{PartResult}
+use Rattle.foringamo.specs.declared.found.SpansResult.{SpansResult}
+use Rattle.foringamo.specs.declared.found.PartResult.{PartResult}
 use Rattle.foringamo.specs.declared.written.WrittenResult.{WrittenResult}
 
 -- yes is 1, no is 0

@@ -6,9 +6,9 @@
 pub mod block;
 pub mod conversion;
 pub mod filter;
+pub mod found;
 pub mod inline;
 pub mod lines;
 pub mod record;
 pub mod shown;
-pub mod spans;
 mod written;

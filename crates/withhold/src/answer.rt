@@ -28,5 +28,11 @@ pub(crate) fn answer(bulletin: &[u8], out: &mut [u8]) -> Result<Withheld, Refusa
     let flags = [0u8; LIMIT + 1];
     let lines = count_lines(bulletin);
     let mut list = [0u32; LIST];
-    withhold(crate_rules(), bulletin, from_indices(&flags, 0, lines), &mut list, out)
+    withhold(
+        crate_rules(),
+        bulletin,
+        from_indices(&flags, 0, lines),
+        &mut list,
+        out,
+    )
 }
