@@ -105,6 +105,9 @@ module _ (text : List ℕ) where
       let p = part-length from (a - from) (omega (arith, h, l, m)) in
       omega (arith, i, e, p, h, l)
 
+  pub besides-most : (spans : List ℕ) → areSpans 0 (length text) spans ≡ true → length (besides 0 spans text) ≤ length text
+  besides-most spans h = omega (arith, sum (are-spans 0 (length text) spans (omega arith) h))
+
   -- ---- stretches
   abbrev size : ℕ
   size = length text
@@ -185,6 +188,10 @@ module _ (ρ : Rules) (text flags : List ℕ) where
   pub beside-found : besides 0 (foundSpans ρ text flags) text ≡ shown ρ text flags
   unfolding foundSpans shown
   beside-found = besides-is 0 (pieces ρ text flags) text
+
+  -- no more bytes are shown than there are
+  pub shown-most : length (shown ρ text flags) ≤ length text
+  shown-most = omega (arith, besides-most text (foundSpans ρ text flags) found-ordered, ap length beside-found)
 
   pub found-length : length (foundSpans ρ text flags) ≡ 3 * count ρ text flags
   unfolding foundSpans count

@@ -14,10 +14,9 @@ use Rattle.rules.specs.declared.Rules.{Rules}
 use Rattle.rules.specs.declared.refusal.Refusal.{Refusal}
 use Rattle.rules.specs.declared.refusal.Refusal.TheVariants.{NoRoom}
 use Rattle.rules.proofs.Refusals.{refusal-positive, output-first, output-short, output-fits, raised}
-use Rattle.runs.proofs.Spans.{beside-found, found-length, found-most, same-refusal}
+use Rattle.runs.proofs.Spans.{beside-found, found-length, found-most, shown-most, same-refusal}
 use Rattle.screen.specs.Answer.{foundOf, shownOf}
 use Rattle.screen.specs.declared.withhold.Withheld.{Withheld}
-use Rattle.screen.proofs.Finding.{shown-length}
 
 -- of an answer that writes
 abbrev isWrote : Wrote → Bool
@@ -93,7 +92,7 @@ module _ (ρ : Rules) (text flags : List ℕ) where
     module _ (z : 0 ≡ bulletinRefusal text flags) where
       -- what is shown fits in as many bytes as there are
       list-alone : {b : Bool} → b ≡ (leb (length spans) (length old) && leb (length output) (length text)) → b ≡ leb (length spans) (length old)
-      list-alone h = h ∙ ap (λ t. leb (length spans) (length old) && t) (le-leb (length output) (length text) (shown-length ρ text flags)) ∙ and-true (leb (length spans) (length old))
+      list-alone h = h ∙ ap (λ t. leb (length spans) (length old) && t) (le-leb (length output) (length text) (shown-most ρ text flags)) ∙ and-true (leb (length spans) (length old))
 
       pub found-no-room : {b : Bool} → b ≡ (leb (length spans) (length old) && leb (length output) (length text)) → b ≡ false → FindAnswered (Err NoRoom) old
       found-no-room h f = find-refused NoRoom (find-short (length old) 0 z (sym (list-alone h) ∙ f))

@@ -1,33 +1,20 @@
 -- Finding from piece to piece: the numbers of those passed are stored, and behind them stand those of the pieces that remain. Three for a piece are no more than three
 -- for a byte, and no more bytes are shown than there are.
-use Rattle.std.proofs.Common.{◌≡◌, refl, sym, ◌∙◌, ap, subst, Bool, true, false, ◌&&◌, List, [], ◌∷◌, ◌++◌, ℕ, suc, ◌+◌, ◌*◌, ◌≤◌, arith, leb, length, le-leb}
+use Rattle.std.proofs.Common.{◌≡◌, refl, sym, ◌∙◌, ap, subst, Bool, true, false, ◌&&◌, List, [], ◌∷◌, ◌++◌, ℕ, ◌+◌, ◌*◌, ◌≤◌, arith, leb, length, le-leb}
 use mir.Val.{bool_byte}
 use Rattle.lexical.specs.Text.{pick, limit}
 use Rattle.lexical.specs.Buffer.{stored, Written}
-use Rattle.lexical.proofs.Cases.{split}
 use Rattle.lexical.proofs.Stores.{stores, from-front, same}
-use Rattle.rules.specs.Withhold.{Which, inline, block, Piece, piece, pieces, isWithheld, outside, shown, count, written}
+use Rattle.rules.specs.Withhold.{Which, inline, block, Piece, piece, count, written}
 use Rattle.rules.specs.Spans.{sortOf, spansOf, foundSpans}
-use Rattle.rules.specs.declared.Rules.{Rules}
 use Rattle.runs.proofs.Ordered.{Ordered, first-some, first-to, others}
-use Rattle.runs.proofs.Spans.{found-length, found-most}
+use Rattle.runs.proofs.Spans.{found-length, found-most, shown-most}
 use Rattle.walk.specs.Remaining.{isBlock, Takes}
 use Rattle.walk.specs.declared.bulletin.Bulletin.{Bulletin}
 use Rattle.walk.specs.declared.pieces.Piece.{Piece as Taken}
 use Rattle.walk.proofs.Walk.{allPieces, all-ordered, Counting, counting-start, counting-on, number-is}
-use Rattle.screen.specs.Shows.{shownBy, spansBy, Measures, spanNumbers, Fills}
+use Rattle.screen.specs.Found.{shownBy, spansBy, Measures, spanNumbers, Fills}
 use Rattle.screen.specs.declared.withhold.Withheld.{Withheld}
-
-outside-length : (i : ℕ) (ps : List Piece) (s : List ℕ) → length (outside i ps s) ≤ length s
-unfolding outside
-outside-length i ps [] = omega arith
-outside-length i ps (x ∷ s) =
-    let h = outside-length (suc i) ps s in
-    split (isWithheld i ps) (λ w. rw w (omega arith)) (λ w. rw w (omega arith))
-
-pub shown-length : (ρ : Rules) (text flags : List ℕ) → length (shown ρ text flags) ≤ length text
-unfolding shown
-shown-length ρ text flags = outside-length 0 (pieces ρ text flags) text
 
 -- the number of a piece's sort
 pub byte-is : (t : Bool) → bool_byte t ≡ pick t 1 0
@@ -94,7 +81,7 @@ module _ (b : Bulletin) (old : List ℕ) where
 module _ (b : Bulletin) where
   pub room-for-all : (list room : ℕ) → 3 * length b.text.now ≤ list → length b.text.now ≤ room → true ≡ (leb (length (spansBy b)) list && leb (length (shownBy b)) room)
   room-for-all list room l r =
-      rw (le-leb (length (spansBy b)) list (omega (arith, found-most b.rules b.text.now b.flags.now, l)), le-leb (length (shownBy b)) room (omega (arith, shown-length b.rules b.text.now b.flags.now, r))) refl
+      rw (le-leb (length (spansBy b)) list (omega (arith, found-most b.rules b.text.now b.flags.now, l)), le-leb (length (shownBy b)) room (omega (arith, shown-most b.rules b.text.now b.flags.now, r))) refl
 
   module _ {w : Withheld} (m : Measures b w) where
     three-for-each : 3 * w.pieces ≡ length (spansBy b)

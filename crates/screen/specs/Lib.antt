@@ -1,3 +1,3 @@
 pub mod Answer
 pub mod Both
-pub mod Shows
+pub mod Found

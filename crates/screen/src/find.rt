@@ -5,7 +5,7 @@ ghost use Rattle.lexical.specs.Text.{limit};
 ghost use Rattle.rules.specs.Spans.{find as findOf, findRefusal, foundSpans};
 ghost use Rattle.rules.specs.Withhold.{written};
 ghost use Rattle.screen.specs.Answer.{foundOf};
-ghost use Rattle.screen.specs.Shows.{shownBy, spansBy, Measures, spanNumbers, Fills};
+ghost use Rattle.screen.specs.Found.{shownBy, spansBy, Measures, spanNumbers, Fills};
 
 use crate::withhold::Withheld;
 use flow::scan::check_bulletin;

@@ -3,7 +3,7 @@
 use Rattle.std.proofs.Common.{◌≡◌, refl, ap, true, false, List, [], ◌∷◌, ℕ, ◌<◌, ◌≤◌, arith, length}
 use Rattle.rules.specs.Withhold.{inline}
 use Rattle.rules.specs.Spans.{areSpans, besides}
-use Rattle.runs.proofs.Spans.{Spans, are-spans, asPieces, as-ordered, besides-as, sum}
+use Rattle.runs.proofs.Spans.{Spans, are-spans, asPieces, as-ordered, besides-as}
 use Rattle.walk.specs.Remaining.{Takes}
 use Rattle.walk.specs.declared.pieces.Piece.{Piece as Taken}
 use Rattle.walk.proofs.Replacing.{withholding, Walking, walking-start, Showing, showing-start}
@@ -26,9 +26,6 @@ module _ (text spans : List ℕ) where
   module _ (h : areSpans 0 (length text) spans ≡ true) where
     pub all-valid : Spans 0 (length text) spans
     all-valid = are-spans 0 (length text) spans (omega arith) h
-
-    pub beside-bound : length (besides 0 spans text) ≤ length text
-    beside-bound = omega (arith, sum text all-valid)
 
     pub going-start : Walking (asPieces spans) (withholding text) (asPieces spans) 0 0
     going-start = walking-start (asPieces spans) (withholding text) (as-ordered all-valid) refl

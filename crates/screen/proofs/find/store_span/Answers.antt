@@ -1,7 +1,7 @@
 use Rattle.std.proofs.Common.{◌∙◌, ap, arith, [], ◌∷◌}
 use Rattle.lexical.specs.Text.{limit}
 use Rattle.lexical.proofs.Stores.{copied}
-use Rattle.screen.specs.Shows.{spanNumbers}
+use Rattle.screen.specs.Found.{spanNumbers}
 use Rattle.screen.proofs.Finding.{byte-is}
 use Rattle.screen.proofs.find.store_span.Goals as goal
 

@@ -1,10 +1,10 @@
 use Rattle.std.proofs.Common.{sym, ◌∙◌, ap, subst, arith, ◌≤◌, length, rules}
 use Rattle.lexical.proofs.Stores.{nothing-written}
 use Rattle.rules.specs.Withhold.{written}
-use Rattle.runs.proofs.Spans.{asPieces}
+use Rattle.runs.proofs.Spans.{asPieces, besides-most}
 use Rattle.walk.proofs.Replacing.{withholding, size-bound, showing-on, shows-all}
 use Rattle.spans.proofs.Lists.{behind}
-use Rattle.spans.proofs.Showing.{takes, no-piece, whole-is, all-valid, beside-bound, writing-start}
+use Rattle.spans.proofs.Showing.{takes, no-piece, whole-is, all-valid, writing-start}
 use Rattle.spans.proofs.show.write_beside.Goals as goal
 
 pub loop-span-init : goal.loop-span-init
@@ -15,7 +15,7 @@ pub overflow_add-size : goal.overflow_add-size
 overflow_add-size c = let a = c.args in let s = c.in-Some.span in
     let h = size-bound (asPieces a.spans.now) (withholding a.bulletin.now) c.loop-span.invariant.1.walking (takes s.start s.stop s.sort c.in-Some.ensures) in
     let w = ap length (whole-is a.bulletin.now a.spans.now) in
-    let b = beside-bound a.bulletin.now a.spans.now c.requires.are_spans in search (rules, h, w, b)
+    let b = besides-most a.bulletin.now a.spans.now c.requires.are_spans in search (rules, h, w, b)
 
 pub loop-span-preserved : goal.loop-span-preserved
 loop-span-preserved c = let a = c.args in let at = c.loop-span in let s = c.in-Some.span in
