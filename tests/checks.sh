@@ -1,4 +1,5 @@
-# For scripts that build a program in C over the archive and end with its numbers: tests/commonmark.sh and compare/cmark.sh read it at the repository's root.
+# For scripts that build a program in C over the archive and end with their numbers: tests/commonmark.sh, tests/preview.sh and compare/cmark.sh read it at the
+# repository's root.
 archive=target/staticlib/libforingamo.a
 
 # ends PASSED FAILED: the last line, and the status.
