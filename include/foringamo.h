@@ -187,8 +187,8 @@ foringamo_written foringamo_narrow_trace(const uint8_t *trace, size_t trace_len,
 /*
  * Finds what is withheld, so that a screen can show the rest and draw a bar where something is not. A piece is a block or an inline piece; its span is three numbers,
  * the index of its first byte, the stop behind its last, and its kind, 0 for inline or 1 for a block. A block begins with its line, spaces included. The list is
- * filled from its front with the span of each piece, in text order: they do not overlap, though two may touch. Room for bulletin_len * 3 numbers always suffices. In a paragraph a `<` behind an odd number of
- * backslashes in a row is text, in both readings, for withholding and for the filter too. Refusals 1, 2, 3, 7.
+ * filled from its front with the span of each piece, in text order: they do not overlap, though two may touch. Room for bulletin_len * 3 numbers always suffices. In
+ * a paragraph a `<` behind an odd number of backslashes in a row is text, in both readings, for withholding and for the filter too. Refusals 1, 2, 3, 7.
  */
 foringamo_spans foringamo_find(const uint8_t *bulletin, size_t bulletin_len, const uint8_t *flags, size_t flags_len, uint32_t *spans, size_t spans_len);
 

@@ -662,9 +662,9 @@ pub fn narrow_trace(trace: &[u8], out: &mut [u8]) -> Result<usize, Refusal> {
 
 /// Finds what is withheld, so that a screen can show the rest and draw a bar where something is not, and gives the number of spans. Refusals 1, 2, 3, 7.
 ///
-/// A piece is a block or an inline piece. The list is filled from its front with the span of each, in text order: they do not overlap, though two may touch. Room for
-/// `bulletin.len()` spans always suffices. In a paragraph a `<` behind an odd number of backslashes in a row is text, in both readings, for withholding and for the
-/// filter too.
+/// A piece is a block or an inline piece; a block begins with its line, spaces included. The list is filled from its front with the span of each, in text order: they
+/// do not overlap, though two may touch. Room for `bulletin.len()` spans always suffices. In a paragraph a `<` behind an odd number of backslashes in a row is text, in
+/// both readings, for withholding and for the filter too.
 ///
 /// ```
 /// use foringamo::{find, Refusal, Span};
