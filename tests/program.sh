@@ -405,7 +405,7 @@ ends_by HUP 129
 # whose stamp is there is not built again, the program is run, and the status is 1 where something is not proved.
 
 # The crates that the program depends on, and the program.
-export STAND_IN_CRATES='lexical rules html flow runs walk screen withhold'
+export STAND_IN_CRATES='lexical rules html flow runs walk spans screen withhold'
 copy=$folder/copy
 mkdir -p "$copy" "$folder/bin"
 cp -R withhold.sh scripts VERSION crates.txt "$copy/"
