@@ -1,7 +1,7 @@
 //! What the scans, withholding and the tag filter cost: the library, and the Rust. bench/run.sh builds and runs it; without `--cfg reference` the library is measured
 //! alone.
 //!
-//! Both sides get the same bytes and indices, and their answers are compared before they are timed. The sides, and the lengths of an input, take turns in rounds of
+//! Both sides get the same bytes and indices, and their answers, with the spans of what is withheld, are compared before they are timed. The sides, and the lengths of an input, take turns in rounds of
 //! about a millisecond; all inputs are gone through several times, and the least time of all rounds counts, since other work on the machine can only slow a round
 //! down. The filter is timed in the library alone.
 #![forbid(unsafe_code)]
@@ -11,8 +11,8 @@
 #[path = "../compare/src/filter.rs"]
 mod filter;
 
-use foringamo::Inline;
-use measure::inputs::{bulletins, filtered_bulletins, flags, repeated, Bulletin, RICH};
+use foringamo::{Inline, Span};
+use measure::inputs::{bulletins, filtered_bulletins, flags, list, repeated, Bulletin, RICH};
 use measure::{commas, head, row, Turns, Work};
 use std::hint::black_box;
 use std::time::Duration;
@@ -27,7 +27,7 @@ const LENGTHS: [usize; 3] = [4_000, 8_000, 16_000];
 type Piece = Option<(u8, usize)>;
 
 mod library {
-    use super::{Inline, Piece};
+    use super::{Inline, Piece, Span};
 
     pub fn inline(text: &[u8], index: usize) -> Piece {
         match foringamo::inline_scan(text, index, 0).expect("not refused") {
@@ -41,21 +41,21 @@ mod library {
         block.map(|block| (block.kind.number(), block.stop))
     }
 
-    // The shown length, and the number of pieces.
-    pub fn withhold(bulletin: &[u8], flags: &[u8], out: &mut [u8]) -> (usize, usize) {
-        let shown = foringamo::withhold(bulletin, flags, out).expect("not refused");
+    // The shown length, and the number of pieces, whose spans are listed.
+    pub fn withhold(bulletin: &[u8], flags: &[u8], spans: &mut [Span], out: &mut [u8]) -> (usize, usize) {
+        let shown = foringamo::withhold(bulletin, flags, spans, out).expect("not refused");
         (shown.length, shown.pieces)
     }
 
-    // The shown length; the filter counts no pieces.
-    pub fn filter(bulletin: &[u8], flags: &[u8], out: &mut [u8]) -> (usize, usize) {
+    // The shown length; the filter counts no pieces, and lists none.
+    pub fn filter(bulletin: &[u8], flags: &[u8], _: &mut [Span], out: &mut [u8]) -> (usize, usize) {
         (foringamo::filter(bulletin, flags, out).expect("not refused"), 0)
     }
 }
 
 #[cfg(reference)]
 mod rust {
-    use super::Piece;
+    use super::{Piece, Span};
     use reference::{blank, line_end};
 
     pub fn inline(text: &[u8], index: usize) -> Piece {
@@ -119,9 +119,16 @@ mod rust {
         }
     }
 
-    // Copies what is outside the pieces, and gives its length and the number of pieces.
-    pub fn withhold(bulletin: &[u8], flags: &[u8], out: &mut [u8]) -> (usize, usize) {
+    impl Found {
+        fn span(&self) -> Span {
+            Span { start: self.start as u32, stop: self.stop as u32, sort: u32::from(self.block) }
+        }
+    }
+
+    // Lists the pieces, copies what is outside of them, and gives its length and their number.
+    pub fn withhold(bulletin: &[u8], flags: &[u8], spans: &mut [Span], out: &mut [u8]) -> (usize, usize) {
         let pieces = pieces(bulletin, flags);
+        spans.iter_mut().zip(&pieces).for_each(|(span, piece)| *span = piece.span());
         let mut length = 0;
         let mut from = 0;
         for (start, stop) in pieces.iter().map(|piece| (piece.start, piece.stop)).chain([(bulletin.len(), bulletin.len())]) {
@@ -133,7 +140,7 @@ mod rust {
     }
 
     // The pieces are shown, each by the filter's rule. Not timed.
-    pub fn filter(bulletin: &[u8], flags: &[u8], out: &mut [u8]) -> (usize, usize) {
+    pub fn filter(bulletin: &[u8], flags: &[u8], _: &mut [Span], out: &mut [u8]) -> (usize, usize) {
         let mut shown = vec![];
         let mut from = 0;
         for piece in pieces(bulletin, flags) {
@@ -150,7 +157,7 @@ mod rust {
 // Never called.
 #[cfg(not(reference))]
 mod rust {
-    use super::Piece;
+    use super::{Piece, Span};
 
     pub fn inline(_: &[u8], _: usize) -> Piece {
         unreachable!()
@@ -160,11 +167,11 @@ mod rust {
         unreachable!()
     }
 
-    pub fn withhold(_: &[u8], _: &[u8], _: &mut [u8]) -> (usize, usize) {
+    pub fn withhold(_: &[u8], _: &[u8], _: &mut [Span], _: &mut [u8]) -> (usize, usize) {
         unreachable!()
     }
 
-    pub fn filter(_: &[u8], _: &[u8], _: &mut [u8]) -> (usize, usize) {
+    pub fn filter(_: &[u8], _: &[u8], _: &mut [Span], _: &mut [u8]) -> (usize, usize) {
         unreachable!()
     }
 }
@@ -329,7 +336,7 @@ fn scan_table(title: &str, lines: &[Line]) {
 }
 
 // What withholding or the filter shows: the length, and the number of pieces where it counts them.
-type Screen = fn(&[u8], &[u8], &mut [u8]) -> (usize, usize);
+type Screen = fn(&[u8], &[u8], &mut [Span], &mut [u8]) -> (usize, usize);
 
 // The library's side, and where it is there the Rust's; of them so many are timed.
 struct Screens<'a> {
@@ -348,12 +355,12 @@ fn screen_lines(screens: &Screens, bulletins: Vec<Bulletin>) -> Vec<Line> {
         for (side, &screen) in screens.sides.iter().enumerate() {
             let mut all = vec![];
             for text in LENGTHS.map(&of_length) {
-                let flags = flags(&text);
+                let (flags, mut spans) = (flags(&text), list(&text));
                 let mut out = vec![0; (screens.room)(text.len())];
-                all.push((screen(&text, &flags, &mut out), out.clone()));
+                all.push((screen(&text, &flags, &mut spans, &mut out), spans.clone(), out.clone()));
                 if side < screens.timed {
                     works.push(Work::new(move || {
-                        black_box(screen(black_box(&text), black_box(&flags), black_box(&mut out)));
+                        black_box(screen(black_box(&text), black_box(&flags), black_box(&mut spans), black_box(&mut out)));
                     }));
                 }
             }

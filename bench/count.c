@@ -1,8 +1,9 @@
 /*
  * One call again and again, for bench/count.sh and bench/place.sh: 'count INPUT' scans or withholds 16,000 bytes 200 times, and writes what the answers add up to;
  * 'count INPUT time' does so 100 times, and writes the least time of a call in microseconds. An input that begins with '=' is a unit, to be withheld again and again.
- * With 'filter:' in front of an input it is filtered, with 'standard:' withheld from by the standard, and with 'trace:' the trace of its scan is written, which for
- * what is withheld is that of the block at its front. It ends with status 2 where there is no such input, and with 3 where the library has no such function.
+ * With 'filter:' in front of an input it is filtered, with 'standard:' withheld from by the standard, with 'find:' its spans are found, with 'show:' it is shown
+ * beside them, for which they are found once before, and with 'trace:' the trace of its scan is written, which for what is withheld is that of the block at its
+ * front. It ends with status 2 where there is no such input, and with 3 where the library has no such function.
  */
 #include "foringamo.h"
 
@@ -12,13 +13,23 @@
 
 /* So that an archive from before a function can be linked too, and counted beside today's. An archive is one object, and what is in it is found. */
 #pragma weak foringamo_filter
+#pragma weak foringamo_find
+#pragma weak foringamo_show
 #pragma weak foringamo_standard_withhold
 
-/* For what is filtered or traced, the room that always suffices (include/foringamo.h). */
-enum { LENGTH = 16000, FILTERED = LENGTH * 8 / 5, TRACED = LENGTH * 28 + 6, ROUNDS = 200, TIMES = 100, LINE = 73 };
+/* For what is found, filtered or traced, the room that always suffices (include/foringamo.h). */
+enum { LENGTH = 16000, SPAN = 3, FOUND = LENGTH * SPAN, FILTERED = LENGTH * 8 / 5, TRACED = LENGTH * 28 + 6, ROUNDS = 200, TIMES = 100, LINE = 73 };
 
 static uint8_t text[LENGTH], flags[LENGTH + 1], out[TRACED];
 static size_t lines = 1;
+
+/* The list of spans, and how many numbers of it are beside what is shown. */
+static uint32_t spans[FOUND];
+static size_t beside;
+
+/* Withholding, of either reading. Before there was foringamo_find it was lent no list. */
+typedef foringamo_shown withholding(const uint8_t *, size_t, const uint8_t *, size_t, uint32_t *, size_t, uint8_t *, size_t);
+typedef foringamo_shown withholding_before(const uint8_t *, size_t, const uint8_t *, size_t, uint8_t *, size_t);
 
 /* A unit again and again. */
 static void repeat(const char *unit)
@@ -40,16 +51,36 @@ static size_t finds_block(void)
     return answer.refusal + answer.kind + answer.stop;
 }
 
+/* A function is cast by way of one without a type, which says that it is meant. */
+static foringamo_shown shown(withholding *withhold)
+{
+    if (foringamo_find != NULL)
+        return withhold(text, LENGTH, flags, lines, spans, FOUND, out, LENGTH);
+    return ((withholding_before *)(void (*)(void))withhold)(text, LENGTH, flags, lines, out, LENGTH);
+}
+
 static size_t withholds(void)
 {
-    foringamo_shown answer = foringamo_withhold(text, LENGTH, flags, lines, out, LENGTH);
+    foringamo_shown answer = shown(foringamo_withhold);
     return answer.refusal + answer.pieces + answer.length;
 }
 
 static size_t withholds_by_standard(void)
 {
-    foringamo_shown answer = foringamo_standard_withhold(text, LENGTH, flags, lines, out, LENGTH);
+    foringamo_shown answer = shown(foringamo_standard_withhold);
     return answer.refusal + answer.pieces + answer.length;
+}
+
+static size_t finds(void)
+{
+    foringamo_spans answer = foringamo_find(text, LENGTH, flags, lines, spans, FOUND);
+    return answer.refusal + answer.count;
+}
+
+static size_t shows(void)
+{
+    foringamo_written answer = foringamo_show(text, LENGTH, spans, beside, out, LENGTH);
+    return answer.refusal + answer.length;
 }
 
 static size_t filters(void)
@@ -148,6 +179,8 @@ int main(int count, char **words)
     } others[] = {
         {"filter:", foringamo_filter != NULL, filters},
         {"standard:", foringamo_standard_withhold != NULL, withholds_by_standard},
+        {"find:", foringamo_find != NULL, finds},
+        {"show:", foringamo_show != NULL, shows},
         {"trace:", 1, traces_block},
     };
     const char *name = count > 1 ? words[1] : "";
@@ -169,6 +202,8 @@ int main(int count, char **words)
     if (other)
         input.call = other;
     fill(&input);
+    if (other == shows)
+        beside = SPAN * foringamo_find(text, LENGTH, flags, lines, spans, FOUND).count;
     if (count == 3 && !strcmp(words[2], "time"))
         printf("%.2f\n", least(input.call));
     else

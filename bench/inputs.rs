@@ -1,10 +1,16 @@
 //! The texts that are measured: a unit again and again, or units in no order, up to a length.
 
 use crate::generator::Random;
+use foringamo::Span;
 
 /// As many flags as there are lines, all 0.
 pub fn flags(text: &[u8]) -> Vec<u8> {
     vec![0; foringamo::count_lines(text)]
+}
+
+/// A list of spans, with the room that always suffices: three numbers a byte.
+pub fn list(text: &[u8]) -> Vec<Span> {
+    vec![Span::default(); text.len()]
 }
 
 /// A unit repeated between two ends, so that there are `length` bytes.

@@ -1,13 +1,13 @@
-//! What the library costs by length, up to the limit of 1,000,000 bytes: withholding, the tag filter, scans, traces, reading a trace, taking it narrow and wide, and counting lines. bench/run.sh
-//! builds and runs it.
+//! What the library costs by length, up to the limit of 1,000,000 bytes: withholding, at once and by finding and showing, the tag filter, scans, traces, reading a trace,
+//! taking it narrow and wide, and counting lines. bench/run.sh builds and runs it.
 //!
 //! The calls of a line, at each length, take turns; all lines are gone through several times, and those with a call above a bound several times more; the least time
 //! counts. At the end stand the calls above a bound, and the status is 1 where there is one. It holds for an idle machine: other work can only make a call slower, but
-//! that of the short text too.
+//! that of the short text too. Showing where nothing is withheld only copies: of such calls the growth has no bound.
 #![forbid(unsafe_code)]
 
-use foringamo::{Inline, Record, Refusal, LIMIT};
-use measure::inputs::{between, filtered_bulletins, flags, in_no_order, texts, units, Bulletin, AT_THE_FRONT, IN_A_PARAGRAPH, PROSE, RICH};
+use foringamo::{Inline, Record, Refusal, Span, LIMIT};
+use measure::inputs::{between, filtered_bulletins, flags, in_no_order, list, texts, units, Bulletin, AT_THE_FRONT, IN_A_PARAGRAPH, PROSE, RICH};
 use measure::{commas, head, row, Turns, Work};
 use std::cell::RefCell;
 use std::hint::black_box;
@@ -21,6 +21,9 @@ const SHORT: usize = 16_000;
 // The bounds: of the time a byte at the limit, to that of the short text; and of a call at the limit.
 const MOST_GROWTH: f64 = 1.5;
 const MOST_MILLISECONDS: f64 = 100.0;
+
+// A call that at the limit takes no longer than so many copies of the text does little else, and its growth, which is the memory's, has no bound.
+const COPIES: f64 = 2.0;
 
 const TURNS: Turns = Turns { rounds: 8, enough: Duration::from_millis(60) };
 const PASSES: usize = 6;
@@ -38,78 +41,93 @@ const ROOM: usize = 2 * LIMIT * EVENT + LAST;
 
 // ---- calls
 
-// What a call is given: a text with its flags and an index; or a trace and the number of a record.
+// What a call is given: a text with its flags, an index, and for a bulletin the spans that are found in it; or a trace and the number of a record.
 struct Given {
     text: Vec<u8>,
     flags: Vec<u8>,
     index: usize,
+    spans: Vec<Span>,
 }
 
-// With an output buffer. It gives the bytes written, a stop, or a count.
-type Call = fn(&Given, &mut [u8]) -> Result<usize, Refusal>;
-
-fn withhold(given: &Given, out: &mut [u8]) -> Result<usize, Refusal> {
-    Ok(foringamo::withhold(&given.text, &given.flags, out)?.length)
+// What a call is lent: a list with room for the spans of any bulletin, and an output buffer.
+struct Lent<'a> {
+    spans: &'a mut [Span],
+    out: &'a mut [u8],
 }
 
-fn standard_withhold(given: &Given, out: &mut [u8]) -> Result<usize, Refusal> {
-    Ok(foringamo::standard_withhold(&given.text, &given.flags, out)?.length)
+// It gives the bytes written, a stop, or a count.
+type Call = fn(&Given, Lent) -> Result<usize, Refusal>;
+
+fn withhold(given: &Given, lent: Lent) -> Result<usize, Refusal> {
+    Ok(foringamo::withhold(&given.text, &given.flags, lent.spans, lent.out)?.length)
 }
 
-fn filter(given: &Given, out: &mut [u8]) -> Result<usize, Refusal> {
-    foringamo::filter(&given.text, &given.flags, out)
+fn standard_withhold(given: &Given, lent: Lent) -> Result<usize, Refusal> {
+    Ok(foringamo::standard_withhold(&given.text, &given.flags, lent.spans, lent.out)?.length)
 }
 
-fn inline_scan(given: &Given, _: &mut [u8]) -> Result<usize, Refusal> {
+fn find(given: &Given, lent: Lent) -> Result<usize, Refusal> {
+    foringamo::find(&given.text, &given.flags, lent.spans)
+}
+
+fn show(given: &Given, lent: Lent) -> Result<usize, Refusal> {
+    foringamo::show(&given.text, &given.spans, lent.out)
+}
+
+fn filter(given: &Given, lent: Lent) -> Result<usize, Refusal> {
+    foringamo::filter(&given.text, &given.flags, lent.out)
+}
+
+fn inline_scan(given: &Given, _: Lent) -> Result<usize, Refusal> {
     match foringamo::inline_scan(&given.text, given.index, 0)? {
         Inline::Found { stop, .. } => Ok(stop),
         Inline::Missing { .. } => Ok(given.index),
     }
 }
 
-fn inline_trace(given: &Given, out: &mut [u8]) -> Result<usize, Refusal> {
-    foringamo::inline_trace(&given.text, given.index, 0, out)
+fn inline_trace(given: &Given, lent: Lent) -> Result<usize, Refusal> {
+    foringamo::inline_trace(&given.text, given.index, 0, lent.out)
 }
 
-fn block_scan(given: &Given, _: &mut [u8]) -> Result<usize, Refusal> {
+fn block_scan(given: &Given, _: Lent) -> Result<usize, Refusal> {
     let block = foringamo::block_scan(&given.text, &given.flags, given.index)?;
     Ok(block.map_or(given.index, |block| block.stop))
 }
 
-fn block_trace(given: &Given, out: &mut [u8]) -> Result<usize, Refusal> {
-    foringamo::block_trace(&given.text, &given.flags, given.index, out)
+fn block_trace(given: &Given, lent: Lent) -> Result<usize, Refusal> {
+    foringamo::block_trace(&given.text, &given.flags, given.index, lent.out)
 }
 
-fn read_last(given: &Given, _: &mut [u8]) -> Result<usize, Refusal> {
+fn read_last(given: &Given, _: Lent) -> Result<usize, Refusal> {
     match foringamo::read_trace(&given.text, given.index)? {
         Record::LastInline { stop, .. } | Record::LastBlock { stop, .. } => Ok(stop),
         event => panic!("{event:?} is not the last record"),
     }
 }
 
-fn narrow_trace(given: &Given, out: &mut [u8]) -> Result<usize, Refusal> {
-    foringamo::narrow_trace(&given.text, out)
+fn narrow_trace(given: &Given, lent: Lent) -> Result<usize, Refusal> {
+    foringamo::narrow_trace(&given.text, lent.out)
 }
 
-fn widen_trace(given: &Given, out: &mut [u8]) -> Result<usize, Refusal> {
-    foringamo::widen_trace(&given.text, out)
+fn widen_trace(given: &Given, lent: Lent) -> Result<usize, Refusal> {
+    foringamo::widen_trace(&given.text, lent.out)
 }
 
-fn count_lines(given: &Given, _: &mut [u8]) -> Result<usize, Refusal> {
+fn count_lines(given: &Given, _: Lent) -> Result<usize, Refusal> {
     Ok(foringamo::count_lines(&given.text))
 }
 
 // Not the library's: what the memory takes.
-fn copy(given: &Given, out: &mut [u8]) -> Result<usize, Refusal> {
+fn copy(given: &Given, lent: Lent) -> Result<usize, Refusal> {
     let length = given.text.len();
-    out[..length].copy_from_slice(&given.text);
+    lent.out[..length].copy_from_slice(&given.text);
     Ok(length)
 }
 
 // As many bytes as the events of the longest trace have.
-fn fill(given: &Given, out: &mut [u8]) -> Result<usize, Refusal> {
+fn fill(given: &Given, lent: Lent) -> Result<usize, Refusal> {
     let length = 2 * given.text.len() * EVENT;
-    out[..length].fill(given.text[0]);
+    lent.out[..length].fill(given.text[0]);
     Ok(length)
 }
 
@@ -125,18 +143,35 @@ fn line_start(text: &[u8], index: usize) -> usize {
 }
 
 fn at_opening(text: Vec<u8>) -> Given {
-    Given { index: opening(&text), flags: flags(&text), text }
+    Given { index: opening(&text), flags: flags(&text), text, spans: vec![] }
 }
 
 fn at_line(text: Vec<u8>) -> Given {
-    Given { index: line_start(&text, opening(&text)), flags: flags(&text), text }
+    Given { index: line_start(&text, opening(&text)), ..at_opening(text) }
+}
+
+fn bulletin(text: Vec<u8>) -> Given {
+    let given = at_opening(text);
+    let mut spans = list(&given.text);
+    let count = foringamo::find(&given.text, &given.flags, &mut spans).expect("not refused");
+    Given { spans: spans[..count].to_vec(), ..given }
+}
+
+// With nothing but bytes.
+fn of_trace(text: Vec<u8>, index: usize) -> Given {
+    Given { text, flags: vec![], index, spans: vec![] }
+}
+
+// With an output buffer and no list.
+fn only(out: &mut [u8]) -> Lent<'_> {
+    Lent { spans: &mut [], out }
 }
 
 // The trace of a text, and the number of its last record.
 fn trace_of(given: Given, trace: Call) -> Given {
     let mut records = vec![0; ROOM];
-    let length = trace(&given, &mut records).expect("not refused");
-    Given { text: records[..length].to_vec(), flags: vec![], index: (length - LAST) / EVENT }
+    let length = trace(&given, only(&mut records)).expect("not refused");
+    of_trace(records[..length].to_vec(), (length - LAST) / EVENT)
 }
 
 // A wide trace with two events for each byte of a text, as long as one of a scan can be, whose numbers fit two bytes.
@@ -150,14 +185,14 @@ fn wide_trace(text: Vec<u8>) -> Given {
         trace.push(0);
     }
     trace.extend_from_slice(&[LAST_TEXT, 1, 0, 0, 0, 0]);
-    Given { text: trace, flags: vec![], index: 0 }
+    of_trace(trace, 0)
 }
 
 // The same, narrow.
 fn old_trace(text: Vec<u8>) -> Given {
     let wide = wide_trace(text);
     let mut narrow = vec![0; wide.text.len()];
-    let length = narrow_trace(&wide, &mut narrow).expect("it fits");
+    let length = narrow_trace(&wide, only(&mut narrow)).expect("it fits");
     narrow.truncate(length);
     Given { text: narrow, ..wide }
 }
@@ -269,18 +304,29 @@ struct Table {
     lines: Vec<Line>,
 }
 
-// The output buffer of all calls.
-type Out = Rc<RefCell<Vec<u8>>>;
+// The list and the output buffer of all calls.
+struct Buffers {
+    spans: Vec<Span>,
+    out: Vec<u8>,
+}
+
+impl Buffers {
+    fn lend(&mut self, room: usize) -> Lent<'_> {
+        Lent { spans: &mut self.spans, out: &mut self.out[..room] }
+    }
+}
+
+type Out = Rc<RefCell<Buffers>>;
 
 // A call's work, and what it gives.
 fn work(column: &Column, given: &Rc<Given>, out: &Out) -> (Work, usize) {
     let (call, given, out) = (column.call, Rc::clone(given), Rc::clone(out));
     let most = column.room.map_or(ROOM, |room| room(given.text.len()));
-    let gives = call(&given, &mut out.borrow_mut()[..most]).expect("not refused");
+    let gives = call(&given, out.borrow_mut().lend(most)).expect("not refused");
     let room = if column.room.is_some() { most } else { gives };
     let run = move || {
-        let out = &mut out.borrow_mut()[..room];
-        black_box(call(black_box(&given), black_box(out))).expect("not refused");
+        let mut out = out.borrow_mut();
+        black_box(call(black_box(&given), black_box(out.lend(room)))).expect("not refused");
     };
     (Work::new(run), gives)
 }
@@ -311,9 +357,9 @@ impl Table {
     }
 
     // The lines with a call above a bound.
-    fn pass_above(&mut self) {
+    fn pass_above(&mut self, copy: &Cost) {
         for line in &mut self.lines {
-            if !costs(&self.columns, line).iter().all(Cost::is_within) {
+            if !costs(&self.columns, line).iter().all(|cost| cost.is_within(copy)) {
                 TURNS.take(&mut line.works);
             }
         }
@@ -324,14 +370,15 @@ impl Table {
     }
 
     // With what is above a bound in bold, where the bounds are for these calls.
-    fn print(&self, bounded: bool) {
+    fn print(&self, copy: Option<&Cost>) {
+        let is_above = |cost: &Cost| copy.is_some_and(|copy| !cost.is_within(copy));
         let mut heads = vec![self.title];
         heads.extend(self.columns.iter().flat_map(|column| [column.name, "growth"]));
         heads.push(self.gives);
         head(&heads);
         for line in &self.lines {
             let mut cells = vec![line.what.clone()];
-            cells.extend(costs(&self.columns, line).iter().flat_map(|cost| cost.cells(bounded && !cost.is_within())));
+            cells.extend(costs(&self.columns, line).iter().flat_map(|cost| cost.cells(is_above(cost))));
             cells.push(commas(line.gives as f64));
             row(&cells);
         }
@@ -342,10 +389,12 @@ fn bulletin_table(out: &Out) -> Table {
     let columns = vec![
         Column { name: "withhold", call: withhold, room: Some(|length| length) },
         Column { name: "standard_withhold", call: standard_withhold, room: Some(|length| length) },
+        roomy("find", find),
+        Column { name: "show", call: show, room: Some(|length| length) },
         Column { name: "filter", call: filter, room: Some(|length| length * 8 / 5) },
         Column { name: "filter, exact room", call: filter, room: None },
     ];
-    Table::new("bulletin", columns, "filtered, bytes").with(screened_texts(), at_opening, out)
+    Table::new("bulletin", columns, "filtered, bytes").with(screened_texts(), bulletin, out)
 }
 
 fn inline_table(out: &Out) -> Table {
@@ -419,8 +468,12 @@ impl Cost {
         self.last() / self.nanoseconds[0]
     }
 
-    fn is_within(&self) -> bool {
-        self.growth() <= MOST_GROWTH && self.milliseconds() <= MOST_MILLISECONDS
+    fn only_copies(&self, copy: &Cost) -> bool {
+        self.last() <= COPIES * copy.last()
+    }
+
+    fn is_within(&self, copy: &Cost) -> bool {
+        (self.only_copies(copy) || self.growth() <= MOST_GROWTH) && self.milliseconds() <= MOST_MILLISECONDS
     }
 
     fn cells(&self, bold: bool) -> [String; 2] {
@@ -444,36 +497,38 @@ fn three(number: f64) -> String {
 }
 
 // Prints how the costs stand to the bounds, and tells whether all are within.
-fn judge(costs: &[Cost]) -> bool {
-    let mut growths: Vec<f64> = costs.iter().map(Cost::growth).collect();
+fn judge(costs: &[Cost], copy: &Cost) -> bool {
+    let mut growths: Vec<f64> = costs.iter().filter(|cost| !cost.only_copies(copy)).map(Cost::growth).collect();
     growths.sort_by(f64::total_cmp);
     let (least, middle, most) = (growths[0], growths[growths.len() / 2], growths[growths.len() - 1]);
-    println!("\n{} calls: growth {least:.2} to {most:.2}, {middle:.2} in the middle.", costs.len());
+    println!("\n{} calls: growth {least:.2} to {most:.2}, {middle:.2} in the middle.", growths.len());
+    println!("{} others take no longer than {COPIES} copies.", costs.len() - growths.len());
     let slowest = costs.iter().max_by(|one, other| one.last().total_cmp(&other.last())).expect("there are calls");
     print!("The slowest: ");
     slowest.print();
-    let above: Vec<&Cost> = costs.iter().filter(|cost| !cost.is_within()).collect();
+    let above: Vec<&Cost> = costs.iter().filter(|cost| !cost.is_within(copy)).collect();
     println!("Above a growth of {MOST_GROWTH} or {MOST_MILLISECONDS} ms: {}.", above.len());
     above.iter().for_each(|cost| cost.print());
     above.is_empty()
 }
 
 fn main() -> ExitCode {
-    let out: Out = Rc::new(RefCell::new(vec![1; ROOM]));
+    let out: Out = Rc::new(RefCell::new(Buffers { spans: vec![Span::default(); LIMIT], out: vec![1; ROOM] }));
     let mut tables = [bulletin_table, inline_table, block_table, reading_table, narrowing_table, widening_table, counting_table].map(|table| table(&out));
     let mut memory = memory_table(&out);
     for _ in 0..PASSES {
         tables.iter_mut().for_each(Table::pass);
         memory.pass();
     }
+    let copy = memory.costs().swap_remove(0);
     for _ in 0..PASSES {
-        tables.iter_mut().for_each(Table::pass_above);
+        tables.iter_mut().for_each(|table| table.pass_above(&copy));
     }
     println!("\n### By length");
-    tables.iter().for_each(|table| table.print(true));
-    memory.print(false);
+    tables.iter().for_each(|table| table.print(Some(&copy)));
+    memory.print(None);
     let costs: Vec<Cost> = tables.iter().flat_map(Table::costs).collect();
-    if judge(&costs) {
+    if judge(&costs, &copy) {
         ExitCode::SUCCESS
     } else {
         ExitCode::FAILURE

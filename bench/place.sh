@@ -4,9 +4,9 @@
 #
 #     bench/place.sh INPUT [ARCHIVE..]
 #
-# INPUT is one of bench/count.sh's, or '=' and a unit that is to be withheld again and again, or 'filter:=' and one that is to be filtered. ARCHIVE is
-# target/staticlib/libforingamo.a where none is given, which scripts/archive.sh builds where it must. With several, as that of an earlier commit and today's, their
-# programs take turns, and a line has the time of each. It needs cc.
+# INPUT is one of bench/count.sh's, or '=' and a unit that is to be withheld again and again; before the '=' may stand a word of bench/count.c, as in 'filter:=' or
+# 'find:='. ARCHIVE is target/staticlib/libforingamo.a where none is given, which scripts/archive.sh builds where it must. With several, as that of an earlier commit
+# and today's, their programs take turns, and a line has the time of each; one from before there was foringamo_find withholds without a list. It needs cc.
 if [ $# -lt 1 ]; then
     echo 'bench/place.sh INPUT [ARCHIVE..]' >&2
     exit 1

@@ -3,7 +3,7 @@
 #
 #     bench/run.sh [PROGRAM..]
 #
-# PROGRAM is compare: the scans, withholding and the tag filter, of the library and of the Rust; or long: all calls of the library by length, up to its limit. Both where
+# PROGRAM is compare: the scans, withholding and the tag filter, of the library and of the Rust; or long: calls of the library by length, up to its limit. Both where
 # none is given, two to three minutes. It ends with status 1 where a call breaks one of long's bounds.
 #
 # It needs rustc and cc, and target/staticlib/libforingamo.a, which scripts/archive.sh builds where it is not there or is older than its sources. Where the Rust crate's

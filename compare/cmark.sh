@@ -20,7 +20,7 @@ int main(void) { return cmark_version() == 0; }'; then
     ends 0 0
 fi
 compiles compare/cmark/cmark.c "$built/control" -lcmark -Dforingamo_standard_block_scan=foringamo_block_scan \
-    -Dforingamo_standard_inline_scan=foringamo_inline_scan -Dforingamo_standard_withhold=foringamo_withhold
+    -Dforingamo_standard_inline_scan=foringamo_inline_scan -Dforingamo_standard_withhold=foringamo_withhold -Dforingamo_standard_find=foringamo_find
 control=$("$built/control" --count "$control_count" | tail -n 1)
 echo "with the Rust's reading in its place: $control"
 if [[ ! $control =~ ^0\ passed,\ [1-9][0-9]*\ failed$ ]]; then

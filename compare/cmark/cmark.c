@@ -3,8 +3,8 @@
  *
  *     cmark [--seed N] [--count N]
  *
- * Five kinds of comparison, each on N texts: the inline pieces of paragraphs; the blocks and inline pieces of bulletins; withholding, against the pieces that
- * both scans find; blocks in a block quote, some lines of which are lazy (flag 1); and blocks behind a paragraph in a block quote, without its marker (flag 3).
+ * Five kinds of comparison, each on N texts: the inline pieces of paragraphs; the blocks and inline pieces of bulletins; withholding and finding, against the pieces
+ * that both scans find; blocks in a block quote, some lines of which are lazy (flag 1); and blocks behind a paragraph in a block quote, without its marker (flag 3).
  * A text is skipped where a line may begin a construct of Markdown that the library does not know. A `<` of a paragraph that a backslash escapes begins no
  * piece; the standard's rule, by which a backslash and the punctuation behind it go together, is followed here for all readings, the scans not looking back.
  *
@@ -17,6 +17,7 @@
  * 'N passed, M failed', one for each kind.
  */
 #include <cmark.h>
+#include <inttypes.h>
 #include <stdio.h>
 #include <stdlib.h>
 #include <string.h>
@@ -25,6 +26,9 @@
 
 /* Pieces of a text at most: none is empty. */
 #define PIECES ROOM
+
+/* How many numbers a span has: start, stop, and 0 for inline or 1 for a block. */
+#define SPAN 3
 
 /* The readings: the standard's rules, with departures or without, and the library's. */
 #define STANDARD 0
@@ -398,34 +402,63 @@ static int explain(int kind, const sample *s, const pieces *ours, const parsed *
     return SEVERAL;
 }
 
-/* Withholds from a text, and sets the pieces that both scans find. There is room for the whole text. */
-static foringamo_shown withhold(const text *t, pieces *ours, uint8_t *out) {
+/* What withholding and finding give, each with its list, and the pieces that both scans find. */
+typedef struct {
+    foringamo_shown shown;
+    foringamo_spans found;
+    uint32_t shown_spans[SPAN * ROOM];
+    uint32_t found_spans[SPAN * ROOM];
+    uint8_t out[ROOM];
+    pieces ours;
+} withheld;
+
+/* Withholds from a text and finds in it. There is room for the whole text, and for as many spans as it has bytes. */
+static void withhold(const text *t, withheld *w) {
     uint8_t flags[ROOM + 1];
-    clear(ours);
-    read_bulletin(t, flags, LIBRARY, ours);
-    return foringamo_standard_withhold(t->bytes, t->length, flags, line_count(t), out, t->length);
+    clear(&w->ours);
+    read_bulletin(t, flags, LIBRARY, &w->ours);
+    size_t lines = line_count(t);
+    w->shown = foringamo_standard_withhold(t->bytes, t->length, flags, lines, w->shown_spans, SPAN * t->length, w->out, t->length);
+    w->found = foringamo_standard_find(t->bytes, t->length, flags, lines, w->found_spans, SPAN * t->length);
 }
 
-/* Withholding shows the bytes outside the pieces of both scans, and counts these. */
-static int judge_withholding(const text *t, size_t *count) {
-    uint8_t out[ROOM + 1];
-    pieces ours;
-    foringamo_shown r = withhold(t, &ours, out);
-    *count = ours.count;
-    if (ours.refused || r.refusal != 0 || r.pieces != ours.count || r.length > t->length) {
-        return UNKNOWN;
+/* Whether a list has the spans of these pieces. */
+static int lists(const uint32_t *spans, const pieces *p) {
+    int same = 1;
+    for (size_t number = 0; same && number < p->count; number++) {
+        const uint32_t *span = spans + SPAN * number;
+        same = span[0] == p->at[number].start && span[1] == p->at[number].stop && span[2] == (uint32_t)p->at[number].is_block;
     }
+    return same;
+}
+
+/* Whether the bytes outside of the pieces, and no others, are shown. */
+static int shows_rest(const text *t, const withheld *w) {
+    const pieces *ours = &w->ours;
     size_t length = 0;
     size_t index = 0;
-    for (size_t number = 0; number <= ours.count; number++) {
-        size_t start = number < ours.count ? ours.at[number].start : t->length;
-        if (length + (start - index) > r.length || memcmp(out + length, t->bytes + index, start - index) != 0) {
-            return UNKNOWN;
+    for (size_t number = 0; number <= ours->count; number++) {
+        size_t start = number < ours->count ? ours->at[number].start : t->length;
+        if (length + (start - index) > w->shown.length || memcmp(w->out + length, t->bytes + index, start - index) != 0) {
+            return 0;
         }
         length += start - index;
-        index = number < ours.count ? ours.at[number].stop : start;
+        index = number < ours->count ? ours->at[number].stop : start;
     }
-    return length == r.length ? AGREES : UNKNOWN;
+    return length == w->shown.length;
+}
+
+/* Withholding shows the bytes outside the pieces of both scans, and counts and lists these; finding gives the same list. */
+static int judge_withholding(const text *t, size_t *count) {
+    static withheld w;
+    withhold(t, &w);
+    *count = w.ours.count;
+    if (w.ours.refused || w.shown.refusal != 0 || w.found.refusal != 0 || w.shown.length > t->length) {
+        return UNKNOWN;
+    }
+    int counted = w.shown.pieces == w.ours.count && w.found.count == w.ours.count;
+    int listed = counted && lists(w.shown_spans, &w.ours) && lists(w.found_spans, &w.ours);
+    return listed && shows_rest(t, &w) ? AGREES : UNKNOWN;
 }
 
 /* The verdict on a sample. Sets how many pieces the library finds. */
@@ -548,17 +581,26 @@ static void show_difference(int kind, const sample *s) {
     cmark_node_free(theirs.document);
 }
 
-/* What withholding gives, and the pieces that the scans find. */
+static void show_list(const uint32_t *spans, size_t count) {
+    for (size_t i = 0; i < SPAN * count; i++) {
+        printf(" %" PRIu32, spans[i]);
+    }
+}
+
+/* What withholding and finding give, and the pieces that the scans find. */
 static void show_withheld(const text *t) {
-    uint8_t out[ROOM + 1];
-    pieces ours;
-    foringamo_shown r = withhold(t, &ours, out);
-    printf(": refusal %d, %zu pieces, shown ", r.refusal, r.pieces);
-    show(out, r.length < t->length ? r.length : t->length);
-    printf("; the scans have %zu", ours.count);
-    for (size_t number = 0; number < ours.count; number++) {
+    static withheld w;
+    withhold(t, &w);
+    printf(": refusal %d, %zu pieces", w.shown.refusal, w.shown.pieces);
+    show_list(w.shown_spans, w.shown.pieces < PIECES ? w.shown.pieces : PIECES);
+    printf(", shown ");
+    show(w.out, w.shown.length < t->length ? w.shown.length : t->length);
+    printf("; found: refusal %d, %zu pieces", w.found.refusal, w.found.count);
+    show_list(w.found_spans, w.found.count < PIECES ? w.found.count : PIECES);
+    printf("; the scans have %zu", w.ours.count);
+    for (size_t number = 0; number < w.ours.count; number++) {
         putchar(' ');
-        show_piece(t, &ours, number);
+        show_piece(t, &w.ours, number);
     }
 }
 

@@ -1,26 +1,27 @@
 //! One comparison of each kind: what the Rust and the table and rules of
-//! docs/SCOPE.md say against what the library says.
+//! docs/SCOPE.md and include/foringamo.h say against what the library says.
 
 use crate::closer;
 use crate::conversion::{self, Way};
+use crate::families::ALL_STRETCHES;
 use crate::filter;
-use crate::hex::to_hex;
+use crate::lent::{same_units, Lent};
 use crate::library;
+use crate::spans;
 use crate::table;
 use crate::withhold::{self, Pieces};
 use reference::EVENT_LENGTH;
 use std::fmt::Debug;
-
-/// What an output buffer holds before each call.
-const OLD: u8 = 0xee;
-
-/// The most bytes that are shown of outputs that differ.
-const SHOWN: usize = 4_000;
+use std::mem::take;
 
 /// The most records of a trace of which each is read, and about how many are, beside
 /// the last ones, where there are more.
 const ALL_READ: usize = 64;
 const READ_OF_LONG: usize = 8;
+
+/// About how many stretches are asked for, beside the last ones, of more spans than all
+/// are asked for of.
+const SOME_STRETCHES: usize = 8;
 
 /// The rooms of a buffer with which a call is tried that is refused whatever the
 /// room.
@@ -41,7 +42,7 @@ pub struct Difference {
 /// A comparison's outcome: whether something was found, or the difference.
 pub type Outcome = Result<bool, Difference>;
 
-/// Counts of what the comparisons do besides scanning, and a buffer.
+/// Counts of what the comparisons do besides scanning, a buffer and a list.
 #[derive(Default)]
 pub struct Work {
     /// Scans of the Rust.
@@ -54,12 +55,20 @@ pub struct Work {
     /// Conversions of them, and those that were not refused.
     pub conversions: u64,
     pub converted: u64,
-    /// Calls with a buffer that is one byte short.
-    pub short: u64,
-    out: Vec<u8>,
+    /// Stretches that were asked for.
+    pub stretches: u64,
+    out: Lent<u8>,
+    list: Lent<u32>,
 }
 
-fn same<T: Debug + PartialEq>(what: &str, wanted: T, given: T) -> Result<(), Difference> {
+impl Work {
+    /// How many calls had a buffer or a list that is one short, since it was asked.
+    pub fn take_short(&mut self) -> u64 {
+        take(&mut self.out.short) + take(&mut self.list.short)
+    }
+}
+
+pub fn same<T: Debug + PartialEq>(what: &str, wanted: T, given: T) -> Result<(), Difference> {
     if wanted == given {
         return Ok(());
     }
@@ -68,103 +77,6 @@ fn same<T: Debug + PartialEq>(what: &str, wanted: T, given: T) -> Result<(), Dif
         wanted: format!("{wanted:?}"),
         given: format!("{given:?}"),
     })
-}
-
-fn same_bytes(what: &str, wanted: &[u8], given: &[u8]) -> Result<(), Difference> {
-    if wanted == given {
-        return Ok(());
-    }
-    let pairs = wanted.iter().zip(given);
-    let equal = pairs.take_while(|(one, other)| one == other).count();
-    Err(Difference {
-        what: what.to_string(),
-        wanted: shown(wanted, equal),
-        given: shown(given, equal),
-    })
-}
-
-/// Bytes in hexadecimal; of many those about an index.
-fn shown(bytes: &[u8], index: usize) -> String {
-    if bytes.len() <= SHOWN {
-        return to_hex(bytes);
-    }
-    let from = index.saturating_sub(SHOWN / 2);
-    let to = bytes.len().min(from + SHOWN);
-    let part = to_hex(&bytes[from..to]);
-    format!("{} bytes, from {from} to {to}: {part}", bytes.len())
-}
-
-/// A part of a buffer that is to be as it was.
-fn unchanged(what: &str, part: &[u8]) -> Result<(), Difference> {
-    if part.iter().all(|byte| *byte == OLD) {
-        return Ok(());
-    }
-    same_bytes(what, &vec![OLD; part.len()], part)
-}
-
-/// Calls with a buffer of some room. Gives the answer and the buffer after it.
-fn lend<'a, T>(
-    out: &'a mut Vec<u8>,
-    room: usize,
-    call: &mut impl FnMut(&mut [u8]) -> T,
-) -> (T, &'a [u8]) {
-    out.clear();
-    out.resize(room, OLD);
-    (call(out), out)
-}
-
-/// With enough room a call writes the bytes and leaves the rest.
-fn fills<T: Debug + PartialEq>(
-    out: &mut Vec<u8>,
-    room: usize,
-    bytes: &[u8],
-    wanted: T,
-    call: &mut impl FnMut(&mut [u8]) -> T,
-) -> Result<(), Difference> {
-    let (given, after) = lend(out, room, call);
-    same("the answer that goes with the output", wanted, given)?;
-    same_bytes("the bytes written", bytes, &after[..bytes.len()])?;
-    unchanged("the buffer past the output", &after[bytes.len()..])
-}
-
-/// What a call writes: with room to spare, with exact room and with some other
-/// room it writes the bytes and leaves the rest; with one byte less it is
-/// refused and writes nothing.
-fn writes<T: Copy + Debug + PartialEq>(
-    work: &mut Work,
-    bytes: &[u8],
-    other: usize,
-    wanted: T,
-    refused: T,
-    mut call: impl FnMut(&mut [u8]) -> T,
-) -> Result<(), Difference> {
-    for room in [bytes.len() + 3, bytes.len(), other] {
-        if room >= bytes.len() {
-            fills(&mut work.out, room, bytes, wanted, &mut call)?;
-        }
-    }
-    if !bytes.is_empty() {
-        work.short += 1;
-        let (given, after) = lend(&mut work.out, bytes.len() - 1, &mut call);
-        same("the answer where the buffer is one short", refused, given)?;
-        unchanged("the buffer after a refusal", after)?;
-    }
-    Ok(())
-}
-
-/// A call that is refused with each of some rooms, and changes nothing.
-fn refuses<T: Debug + PartialEq + Copy>(
-    out: &mut Vec<u8>,
-    rooms: &[usize],
-    refused: T,
-    mut call: impl FnMut(&mut [u8]) -> T,
-) -> Result<(), Difference> {
-    for room in rooms {
-        let (given, after) = lend(out, *room, &mut call);
-        same("the refusal with an output buffer", refused, given)?;
-        unchanged("the buffer after a refusal", after)?;
-    }
-    Ok(())
 }
 
 fn nothing_written(refusal: u8) -> library::Written {
@@ -184,7 +96,7 @@ pub fn inline(text: &[u8], index: usize, carry: u8, work: &mut Work) -> Outcome 
             stop: 0,
         };
         same("the inline scan", wanted, given)?;
-        refuses(&mut work.out, &ROOMS, nothing_written(refusal), trace)?;
+        work.out.refuses(&ROOMS, nothing_written(refusal), trace)?;
         return Ok(false);
     }
 
@@ -216,7 +128,7 @@ pub fn block(bulletin: &[u8], flags: &[u8], index: usize, work: &mut Work) -> Ou
             closer: 0,
         };
         same("the block scan", wanted, given)?;
-        refuses(&mut work.out, &ROOMS, nothing_written(refusal), trace)?;
+        work.out.refuses(&ROOMS, nothing_written(refusal), trace)?;
         return Ok(false);
     }
 
@@ -250,7 +162,7 @@ fn traced(
     let length = trace.len();
     let wanted = library::Written { refusal: 0, length };
     let refused = nothing_written(table::NO_ROOM);
-    writes(work, trace, 0, wanted, refused, call)?;
+    work.out.writes(trace, 0, wanted, refused, call)?;
 
     work.traces += 1;
     // Events, and the last record, which is shorter than one.
@@ -294,7 +206,7 @@ fn becomes(trace: &[u8], way: Way, bytes: &[u8], work: &mut Work) -> Result<(), 
     let length = bytes.len();
     let wanted = library::Written { refusal: 0, length };
     let mut call = |out: &mut [u8]| library::convert(way, trace, out);
-    fills(&mut work.out, length, bytes, wanted, &mut call)
+    work.out.fills(length, bytes, wanted, &mut call)
 }
 
 /// A conversion of any bytes: what it writes; also with no room, and with some other
@@ -305,16 +217,16 @@ pub fn convert(trace: &[u8], way: Way, other: usize, work: &mut Work) -> Outcome
         Err(refusal) => {
             // The last would do for all: no record has more than twice its bytes.
             let rooms = [0, other, 2 * trace.len()];
-            refuses(&mut work.out, &rooms, nothing_written(refusal), call)?;
+            work.out.refuses(&rooms, nothing_written(refusal), call)?;
             Ok(false)
         }
         Ok(bytes) => {
             let length = bytes.len();
             let wanted = library::Written { refusal: 0, length };
             let refused = nothing_written(table::NO_ROOM);
-            writes(work, &bytes, other, wanted, refused, call)?;
+            work.out.writes(&bytes, other, wanted, refused, call)?;
             let rooms = [0, other.min(length - 1)];
-            refuses(&mut work.out, &rooms, refused, call)?;
+            work.out.refuses(&rooms, refused, call)?;
             Ok(true)
         }
     }
@@ -350,54 +262,177 @@ pub fn read(trace: &[u8], number: usize) -> Outcome {
 }
 
 /// A bulletin with its flags: the refusal by the table and, where there is none,
-/// the pieces by the Rust's scans.
+/// the pieces by the Rust's scans, their spans, and what is shown without them.
 pub struct Screen<'a> {
     bulletin: &'a [u8],
     flags: &'a [u8],
     refusal: u8,
     pieces: Pieces,
+    spans: Vec<u32>,
+    shown: Vec<u8>,
 }
 
 impl Screen<'_> {
     pub fn new<'a>(bulletin: &'a [u8], flags: &'a [u8], work: &mut Work) -> Screen<'a> {
         let refusal = table::bulletin(bulletin, flags);
-        let pieces = if refusal == 0 {
-            withhold::pieces(bulletin, flags)
+        let (pieces, shown) = if refusal == 0 {
+            let pieces = withhold::pieces(bulletin, flags);
+            let shown = pieces.withheld(bulletin);
+            (pieces, shown)
         } else {
-            Pieces::default()
+            Default::default()
         };
         work.scans += pieces.scans;
         Screen {
             bulletin,
             flags,
             refusal,
+            spans: pieces.spans(),
             pieces,
+            shown,
         }
+    }
+
+    /// The room of a list that suffices for any bulletin as long.
+    fn most(&self) -> usize {
+        spans::NUMBERS * self.bulletin.len()
     }
 }
 
-/// Withholding.
+/// Withholding: with a list and a buffer that both have room to spare, exact room, and
+/// the room that always suffices; and with one of them one short.
 pub fn withhold(screen: &Screen, work: &mut Work) -> Outcome {
-    let nothing = |refusal| library::Shown {
-        refusal,
-        length: 0,
-        pieces: 0,
-    };
-    let call = |out: &mut [u8]| library::withhold(screen.bulletin, screen.flags, out);
+    let (spans, shown) = (screen.spans.len(), screen.shown.len());
+    let (most, length) = (screen.most(), screen.bulletin.len());
     if screen.refusal != 0 {
-        refuses(&mut work.out, &ROOMS, nothing(screen.refusal), call)?;
+        for room in ROOMS {
+            withholds(screen, room, room, work)?;
+        }
         return Ok(false);
     }
 
-    let shown = screen.pieces.withheld(screen.bulletin);
-    let wanted = library::Shown {
-        refusal: 0,
-        length: shown.len(),
-        pieces: screen.pieces.all.len(),
+    withholds(screen, spans + 2, shown + 3, work)?;
+    withholds(screen, spans, shown, work)?;
+    withholds(screen, most, length, work)?;
+    if shown > 0 {
+        withholds(screen, spans, shown - 1, work)?;
+    }
+    if spans > 0 {
+        withholds(screen, spans - 1, length, work)?;
+    }
+    Ok(spans > 0)
+}
+
+/// Withholding with a list of so many numbers, and a buffer of so many bytes.
+fn withholds(screen: &Screen, list: usize, out: usize, work: &mut Work) -> Result<(), Difference> {
+    let is_short = list < screen.spans.len() || out < screen.shown.len();
+    work.list.short += u64::from(is_short);
+    let refusal = match screen.refusal {
+        0 if is_short => table::NO_ROOM,
+        refusal => refusal,
     };
-    let refused = nothing(table::NO_ROOM);
-    writes(work, &shown, screen.bulletin.len(), wanted, refused, call)?;
-    Ok(wanted.pieces > 0)
+    let is_shown = refusal == 0;
+    let wanted = library::Shown {
+        refusal,
+        length: if is_shown { screen.shown.len() } else { 0 },
+        pieces: if is_shown { screen.pieces.all.len() } else { 0 },
+    };
+    let (list, out) = (work.list.with(list), work.out.with(out));
+    let given = library::withhold(screen.bulletin, screen.flags, list, out);
+    same("the answer of withholding", wanted, given)?;
+    if !is_shown {
+        work.list.keeps(0)?;
+        return work.out.keeps(0);
+    }
+    work.list.holds(&screen.spans)?;
+    work.out.holds(&screen.shown)
+}
+
+/// Finding, and showing beside what was found.
+pub fn find(screen: &Screen, work: &mut Work) -> Outcome {
+    let found = |refusal, count| library::Spans { refusal, count };
+    let call = |list: &mut [u32]| library::find(screen.bulletin, screen.flags, list);
+    if screen.refusal != 0 {
+        let refused = found(screen.refusal, 0);
+        work.list.refuses(&ROOMS, refused, call)?;
+        return Ok(false);
+    }
+
+    let (spans, most) = (&screen.spans, screen.most());
+    let wanted = found(0, screen.pieces.all.len());
+    let refused = found(table::NO_ROOM, 0);
+    work.list.writes(spans, most, wanted, refused, call)?;
+    shows(screen.bulletin, spans, &screen.shown, work)?;
+    Ok(wanted.count > 0)
+}
+
+/// Showing beside any list. Where something is found, it is taken.
+pub fn show(bulletin: &[u8], list: &[u32], work: &mut Work) -> Outcome {
+    let refusal = spans::refusal(bulletin, list);
+    if refusal == 0 {
+        shows(bulletin, list, &spans::beside(bulletin, list), work)?;
+        no_stretch(bulletin, list, usize::MAX, work)?;
+        return Ok(true);
+    }
+
+    let call = |out: &mut [u8]| library::show(bulletin, list, out);
+    let rooms = [0, bulletin.len()];
+    work.out.refuses(&rooms, nothing_written(refusal), call)?;
+    for number in [0, list.len() / spans::NUMBERS, usize::MAX] {
+        no_stretch(bulletin, list, number, work)?;
+    }
+    Ok(false)
+}
+
+/// A number that no stretch has.
+fn no_stretch(
+    bulletin: &[u8],
+    list: &[u32],
+    number: usize,
+    work: &mut Work,
+) -> Result<(), Difference> {
+    work.stretches += 1;
+    let given = library::stretch(bulletin, list, number);
+    same("what is no stretch", spans::NO_PART, given)
+}
+
+/// What is shown beside a list that is taken, and the stretches.
+fn shows(bulletin: &[u8], list: &[u32], shown: &[u8], work: &mut Work) -> Result<(), Difference> {
+    let call = |out: &mut [u8]| library::show(bulletin, list, out);
+    let length = shown.len();
+    let wanted = library::Written { refusal: 0, length };
+    let refused = nothing_written(table::NO_ROOM);
+    work.out
+        .writes(shown, bulletin.len(), wanted, refused, call)?;
+
+    let count = list.len() / spans::NUMBERS;
+    if count <= ALL_STRETCHES {
+        let numbers = 0..=count;
+        let joined = stretches(bulletin, list, numbers, work)?;
+        same_units("the stretches, one after the other", shown, &joined)?;
+    } else {
+        let numbers = (0..count).step_by(count / SOME_STRETCHES).chain([count]);
+        stretches(bulletin, list, numbers, work)?;
+    }
+    no_stretch(bulletin, list, count + 1, work)
+}
+
+/// The stretches of these numbers, one after the other.
+fn stretches(
+    bulletin: &[u8],
+    list: &[u32],
+    numbers: impl Iterator<Item = usize>,
+    work: &mut Work,
+) -> Result<Vec<u8>, Difference> {
+    let mut joined = Vec::with_capacity(bulletin.len());
+    for number in numbers {
+        work.stretches += 1;
+        let given = library::stretch(bulletin, list, number);
+        let wanted = spans::stretch(list, bulletin.len(), number);
+        same("the stretch", wanted, given)?;
+        joined.extend_from_slice(&bulletin[given.start..][..given.length]);
+    }
+    Ok(joined)
 }
 
 /// The tag filter. Where something is found, a tag is replaced.
@@ -405,7 +440,8 @@ pub fn filter(screen: &Screen, work: &mut Work) -> Outcome {
     let bulletin = screen.bulletin;
     let call = |out: &mut [u8]| library::filter(bulletin, screen.flags, out);
     if screen.refusal != 0 {
-        refuses(&mut work.out, &ROOMS, nothing_written(screen.refusal), call)?;
+        work.out
+            .refuses(&ROOMS, nothing_written(screen.refusal), call)?;
         return Ok(false);
     }
 
@@ -417,6 +453,7 @@ pub fn filter(screen: &Screen, work: &mut Work) -> Outcome {
     let refused = nothing_written(table::NO_ROOM);
     // The shortest such tag, `<xmp>`, has five bytes and becomes eight: so much
     // room always suffices.
-    writes(work, &shown, bulletin.len() * 8 / 5, wanted, refused, call)?;
+    let room = bulletin.len() * 8 / 5;
+    work.out.writes(&shown, room, wanted, refused, call)?;
     Ok(length > bulletin.len())
 }

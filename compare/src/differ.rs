@@ -5,15 +5,20 @@
 //!
 //! Compared are the answers of both scans with kind, stop, closer and carry,
 //! all trace bytes, each record read back (of a long trace a few), each trace taken
-//! narrow and wide again, withholding, the tag filter, and every refusal; the
-//! closer also with the plain rule (closer.rs). The filter is held against its plain
-//! rule (filter.rs) over the pieces of withholding, which the Rust's scans give
-//! (withhold.rs), and the conversion of traces against its own (conversion.rs).
+//! narrow and wide again, withholding, at once and by finding and showing, the tag
+//! filter, and every refusal; the closer also with the plain rule (closer.rs). Shown
+//! bytes, the list of spans and the filter, by its plain rule (filter.rs), are held
+//! against the pieces that the Rust's scans give (withhold.rs), the conversion of
+//! traces against its own rule (conversion.rs), and showing beside any spans, with the
+//! stretches between them, against its own (spans.rs).
 //! Inputs are taken exhaustively over small alphabets (families.rs) and up to the
 //! limit on lengths (long.rs), both the same in every run, and at random, from the
-//! seed N texts (fragments.rs) and N byte strings that look like traces (made.rs).
+//! seed N texts (fragments.rs), N byte strings that look like traces (made.rs) and N
+//! texts with a list of spans (lists.rs).
 //! Where the two differ, the shortest input found is shown, and the status is 1.
-//! The last line is `N passed, M failed`, one for each kind of comparison.
+//! The last line is `N passed, M failed`, one for each kind of comparison, and one for
+//! a control: by the lists of spans each of some rules that have one number wrong
+//! (spans.rs) is told from the right one.
 
 mod check;
 mod closer;
@@ -24,10 +29,13 @@ mod fragments;
 mod generator;
 #[allow(dead_code)]
 mod hex;
+mod lent;
 mod library;
+mod lists;
 mod long;
 mod made;
 mod shrink;
+mod spans;
 mod table;
 mod withhold;
 
@@ -51,14 +59,19 @@ const LONG_COUNT: u64 = 10_000_000;
 /// So many random texts come with a bulletin that has the filter's names.
 const TAGGED: usize = 8;
 
-/// So many inputs that may be refused come with one about as long as is allowed.
+/// So many inputs that may be refused come with one about as long as is allowed, and so
+/// many with lists of spans.
 const AT_LIMIT: usize = 2_000;
+const LISTED_AT_LIMIT: usize = 5_000;
+
+/// Of so many lists of spans there must be some that tell each wrong rule.
+const ENOUGH_LISTS: u64 = 100_000;
 
 /// A text of fewer bytes is short: all is asked of it.
 const SHORT: usize = 1_000;
 
 /// How many numbers a refusal may have, with 0, which is none.
-const NUMBERS: usize = 12;
+const NUMBERS: usize = 13;
 
 /// How many inputs a job takes.
 const OF_FAMILY: u64 = 512;
@@ -80,13 +93,17 @@ enum Row {
     WithholdAll,
     WithholdRandom,
     WithholdLong,
+    FindAll,
+    FindRandom,
+    FindLong,
+    ShowRandom,
     FilterAll,
     FilterRandom,
     FilterLong,
     Refusals,
 }
 
-const ROWS: [&str; 17] = [
+const ROWS: [&str; 21] = [
     "inline scans and traces, exhaustive",
     "inline scans and traces, random",
     "inline scans and traces, long texts",
@@ -100,6 +117,10 @@ const ROWS: [&str; 17] = [
     "withholding, exhaustive",
     "withholding, random",
     "withholding, long texts",
+    "finding and showing, exhaustive",
+    "finding and showing, random",
+    "finding and showing, long texts",
+    "showing beside any spans, random",
     "tag filter, exhaustive",
     "tag filter, random",
     "tag filter, long texts",
@@ -116,10 +137,11 @@ const SCANS: [Row; 6] = [
     Row::BlockLong,
 ];
 
-/// The rows of what is made of a bulletin's pieces: withholding and the filter.
-const SCREENS_ALL: [Row; 2] = [Row::WithholdAll, Row::FilterAll];
-const SCREENS_RANDOM: [Row; 2] = [Row::WithholdRandom, Row::FilterRandom];
-const SCREENS_LONG: [Row; 2] = [Row::WithholdLong, Row::FilterLong];
+/// The rows of what is made of a bulletin's pieces: withholding, at once and by finding
+/// and showing, and the filter.
+const SCREENS_ALL: [Row; 3] = [Row::WithholdAll, Row::FindAll, Row::FilterAll];
+const SCREENS_RANDOM: [Row; 3] = [Row::WithholdRandom, Row::FindRandom, Row::FilterRandom];
+const SCREENS_LONG: [Row; 3] = [Row::WithholdLong, Row::FindLong, Row::FilterLong];
 
 /// What one row counts.
 #[derive(Clone, Default)]
@@ -137,6 +159,8 @@ struct Tally {
     rows: Vec<Count>,
     /// How often each number was refused.
     refused: [u64; NUMBERS],
+    /// How many lists told each wrong rule for spans from the right one.
+    told: [u64; spans::WRONG.len()],
     visited: Visited,
     work: Work,
     job: usize,
@@ -147,6 +171,7 @@ impl Tally {
         Tally {
             rows: vec![Count::default(); ROWS.len()],
             refused: [0; NUMBERS],
+            told: [0; spans::WRONG.len()],
             visited: take_visited(),
             work: Work::default(),
             job: 0,
@@ -179,10 +204,17 @@ impl Tally {
                 }
             }
         }
+        self.count_work(row);
+    }
+
+    /// Count what a comparison did besides.
+    fn count_work(&mut self, row: Row) {
         let take = std::mem::take::<u64>;
-        self.refused[usize::from(table::NO_ROOM)] += take(&mut self.work.short);
+        self.refused[usize::from(table::NO_ROOM)] += self.work.take_short();
         let scans = take(&mut self.work.scans);
+        let stretches = take(&mut self.work.stretches);
         self.rows[row as usize].scans += match row {
+            Row::FindAll | Row::FindRandom | Row::FindLong | Row::ShowRandom => stretches,
             Row::WrongTraces
             | Row::MadeTraces
             | Row::Refusals
@@ -205,40 +237,45 @@ impl Tally {
     fn inline(&mut self, row: Row, text: &[u8], index: usize, carry: u8) {
         let outcome = check::inline(text, index, carry, &mut self.work);
         self.count(row, outcome, || Ask {
-            kind: Kind::Inline,
-            bytes: text.to_vec(),
-            flags: vec![],
             index,
             carry,
+            ..Ask::new(Kind::Inline, text)
         });
     }
 
     fn block(&mut self, row: Row, bulletin: &[u8], flags: &[u8], index: usize) {
         let outcome = check::block(bulletin, flags, index, &mut self.work);
         self.count(row, outcome, || Ask {
-            kind: Kind::Block,
-            bytes: bulletin.to_vec(),
-            flags: flags.to_vec(),
             index,
-            carry: 0,
+            ..Ask::new(Kind::Block, bulletin).with_flags(flags)
         });
     }
 
-    /// Withholding and the filter, each in its row, over the same pieces. The
-    /// Rust's scans count in the first.
-    fn screen(&mut self, rows: [Row; 2], bulletin: &[u8], flags: &[u8]) {
-        let ask = |kind| Ask {
-            kind,
-            bytes: bulletin.to_vec(),
-            flags: flags.to_vec(),
-            index: 0,
-            carry: 0,
-        };
+    /// Withholding, finding and showing, and the filter, each in its row, over the same
+    /// pieces. The Rust's scans count in the first.
+    fn screen(&mut self, rows: [Row; 3], bulletin: &[u8], flags: &[u8]) {
+        let ask = |kind| Ask::new(kind, bulletin).with_flags(flags);
         let screen = Screen::new(bulletin, flags, &mut self.work);
         let outcome = check::withhold(&screen, &mut self.work);
         self.count(rows[0], outcome, || ask(Kind::Withhold));
+        let outcome = check::find(&screen, &mut self.work);
+        self.count(rows[1], outcome, || ask(Kind::Find));
         let outcome = check::filter(&screen, &mut self.work);
-        self.count(rows[1], outcome, || ask(Kind::Filter));
+        self.count(rows[2], outcome, || ask(Kind::Filter));
+    }
+
+    /// Showing beside a list, which tells wrong rules from the right one.
+    fn show(&mut self, row: Row, bulletin: &[u8], list: &[u32]) {
+        let outcome = check::show(bulletin, list, &mut self.work);
+        self.count(row, outcome, || Ask {
+            list: list.to_vec(),
+            ..Ask::new(Kind::Show, bulletin)
+        });
+        let refusal = spans::refusal(bulletin, list);
+        self.refused[usize::from(refusal)] += 1;
+        for (told, wrong) in self.told.iter_mut().zip(spans::told(bulletin, list)) {
+            *told += u64::from(wrong);
+        }
     }
 
     fn random_screen(&mut self, bulletin: &[u8], flags: &[u8]) {
@@ -249,22 +286,16 @@ impl Tally {
     fn read(&mut self, row: Row, trace: &[u8], number: usize) {
         let outcome = check::read(trace, number);
         self.count(row, outcome, || Ask {
-            kind: Kind::Read,
-            bytes: trace.to_vec(),
-            flags: vec![],
             index: number,
-            carry: 0,
+            ..Ask::new(Kind::Read, trace)
         });
     }
 
     fn convert(&mut self, row: Row, trace: &[u8], way: Way, room: usize) {
         let outcome = check::convert(trace, way, room, &mut self.work);
         self.count(row, outcome, || Ask {
-            kind: Kind::Convert(way),
-            bytes: trace.to_vec(),
-            flags: vec![],
             index: room,
-            carry: 0,
+            ..Ask::new(Kind::Convert(way), trace)
         });
     }
 
@@ -279,7 +310,9 @@ impl Tally {
                 (a, b) => a.or(b),
             };
         }
-        for (mine, theirs) in self.refused.iter_mut().zip(other.refused) {
+        let refused = self.refused.iter_mut().zip(other.refused);
+        let told = self.told.iter_mut().zip(other.told);
+        for (mine, theirs) in refused.chain(told) {
             *mine += theirs;
         }
         for (mine, theirs) in self.visited.iter_mut().zip(other.visited) {
@@ -298,6 +331,21 @@ enum Job {
     Random(u64, u64),
     /// So many byte strings that look like traces, from a seed.
     Made(u64, u64),
+    /// So many bulletins with lists of spans, from a seed.
+    Lists(u64, u64),
+}
+
+impl Job {
+    fn run(&self, families: &[Family], tally: &mut Tally) {
+        match self {
+            Job::Long(one) if one.kind == Kind::Withhold => long_screen(one, tally),
+            Job::Long(one) => long_scans(one, tally),
+            Job::Family(one, numbers) => family(&families[*one], numbers.clone(), tally),
+            Job::Random(seed, count) => at_random(*seed, *count, tally),
+            Job::Made(seed, count) => made(*seed, *count, tally),
+            Job::Lists(seed, count) => listed(*seed, *count, tally),
+        }
+    }
 }
 
 fn jobs(families: &[Family], seed: u64, count: u64) -> Vec<Job> {
@@ -310,7 +358,7 @@ fn jobs(families: &[Family], seed: u64, count: u64) -> Vec<Job> {
             from = to;
         }
     }
-    for of_kind in [Job::Random, Job::Made] {
+    for of_kind in [Job::Random, Job::Made, Job::Lists] {
         let mut left = count;
         while left > 0 {
             let size = left.min(AT_RANDOM);
@@ -377,7 +425,7 @@ fn family(family: &Family, numbers: Range<u64>, tally: &mut Tally) {
                     tally.screen(SCREENS_ALL, &text, &flags);
                 }
             }
-            Kind::Filter | Kind::Read | Kind::Convert(_) => {
+            Kind::Find | Kind::Show | Kind::Filter | Kind::Read | Kind::Convert(_) => {
                 unreachable!("no family is of this kind")
             }
         }
@@ -527,13 +575,42 @@ fn made(seed: u64, count: u64, tally: &mut Tally) {
     }
 }
 
+/// Bulletins with lists of spans, those found in them or others, most of them altered.
+fn listed(seed: u64, count: u64, tally: &mut Tally) {
+    let random = &mut Random::new(seed);
+    let row = Row::ShowRandom;
+    for _ in 0..count {
+        let mut text = fragments::text(random);
+        if random.once_in(LISTED_AT_LIMIT) {
+            to_limit(random, &mut text);
+        }
+        let list = lists::list(random, &found(&text), text.len());
+        tally.input(&[row]);
+        tally.show(row, &text, &list);
+    }
+}
+
+/// The spans that the library finds, with all flags 0; none where it refuses.
+fn found(text: &[u8]) -> Vec<u32> {
+    let flags = vec![0; line_starts(text).len()];
+    let mut list = vec![0; spans::NUMBERS * text.len()];
+    let count = library::find(text, &flags, &mut list).count;
+    list.truncate(spans::NUMBERS * count);
+    list
+}
+
+/// A text made about as long as is allowed.
+fn to_limit(random: &mut Random, text: &mut Vec<u8>) {
+    let length = table::LIMIT - 1 + random.below(4);
+    let byte = random.one(b"a\n< ");
+    text.resize(length, byte);
+}
+
 /// An input that one or more rows of the table of refusals may refuse.
 fn refusal(random: &mut Random, text: &[u8], tally: &mut Tally) {
     let mut text = text.to_vec();
     if random.once_in(AT_LIMIT) {
-        let length = table::LIMIT - 1 + random.below(4);
-        let byte = random.one(b"a\n< ");
-        text.resize(length, byte);
+        to_limit(random, &mut text);
     }
     let mut flags = fragments::flags(random, line_starts(&text).len());
     if random.once_in(4) {
@@ -563,7 +640,7 @@ fn refusal(random: &mut Random, text: &[u8], tally: &mut Tally) {
     refused(&text, &flags, index, carry, tally);
 }
 
-/// The scans of such an input, withholding and the filter.
+/// The scans of such an input, withholding, finding and the filter.
 fn refused(text: &[u8], flags: &[u8], index: usize, carry: u8, tally: &mut Tally) {
     let row = Row::Refusals;
     let before = tally.rows[row as usize].found;
@@ -574,12 +651,13 @@ fn refused(text: &[u8], flags: &[u8], index: usize, carry: u8, tally: &mut Tally
         table::block(text, flags, index),
         of_bulletin,
         of_bulletin,
+        of_bulletin,
     ];
     tally.inline(row, text, index, carry);
     tally.block(row, text, flags, index);
     // A long text is withheld and filtered above.
     if of_bulletin != 0 || text.len() < SHORT {
-        tally.screen([row, row], text, flags);
+        tally.screen([row; 3], text, flags);
     }
     for refusal in refusals {
         tally.refused[usize::from(refusal)] += 1;
@@ -626,6 +704,20 @@ fn options() -> Option<Options> {
     Some(options)
 }
 
+/// What a thread does: jobs from the next on, until there is none.
+fn work(next: &AtomicUsize, jobs: &[Job], families: &[Family]) -> Tally {
+    let mut tally = Tally::new();
+    loop {
+        tally.job = next.fetch_add(1, Ordering::Relaxed);
+        let Some(job) = jobs.get(tally.job) else {
+            break;
+        };
+        job.run(families, &mut tally);
+    }
+    tally.visited = take_visited();
+    tally
+}
+
 fn main() -> ExitCode {
     let Some(options) = options() else {
         eprintln!("usage: differ [--seed N] [--count N | --long] [--threads N]");
@@ -639,34 +731,17 @@ fn main() -> ExitCode {
     let mut tally = Tally::new();
     std::thread::scope(|scope| {
         let threads: Vec<_> = (0..options.threads.max(1))
-            .map(|_| {
-                scope.spawn(|| {
-                    let mut tally = Tally::new();
-                    loop {
-                        tally.job = next.fetch_add(1, Ordering::Relaxed);
-                        match jobs.get(tally.job) {
-                            Some(Job::Long(one)) if one.kind == Kind::Withhold => {
-                                long_screen(one, &mut tally);
-                            }
-                            Some(Job::Long(one)) => long_scans(one, &mut tally),
-                            Some(Job::Family(one, numbers)) => {
-                                family(&families[*one], numbers.clone(), &mut tally);
-                            }
-                            Some(Job::Random(seed, count)) => at_random(*seed, *count, &mut tally),
-                            Some(Job::Made(seed, count)) => made(*seed, *count, &mut tally),
-                            None => break,
-                        }
-                    }
-                    tally.visited = take_visited();
-                    tally
-                })
-            })
+            .map(|_| scope.spawn(|| work(&next, &jobs, &families)))
             .collect();
         for thread in threads {
             tally.add(thread.join().expect("no scan of the Rust panics"));
         }
     });
+    print_differences(&tally);
+    report(&tally, &options, begun)
+}
 
+fn print_differences(tally: &Tally) {
     for (row, count) in tally.rows.iter().enumerate() {
         if let Some((_, ask)) = &count.first {
             let (ask, difference) = shrink(ask);
@@ -677,10 +752,9 @@ fn main() -> ExitCode {
             println!("  the library:        {}\n", difference.given);
         }
     }
-    report(&tally, &options, begun)
 }
 
-fn report(tally: &Tally, options: &Options, begun: Instant) -> ExitCode {
+fn print_rows(tally: &Tally) {
     println!(
         "{:37} {:>11} {:>12} {:>12} {:>11}",
         "comparison", "inputs", "scans", "found", "differences"
@@ -691,15 +765,22 @@ fn report(tally: &Tally, options: &Options, begun: Instant) -> ExitCode {
             count.inputs, count.scans, count.found, count.differences
         );
     }
-    let of_rust: u64 = SCANS
-        .iter()
-        .chain(&[Row::WithholdAll, Row::WithholdRandom, Row::WithholdLong])
-        .map(|row| tally.rows[*row as usize].scans)
-        .sum();
-    let numbers: Vec<String> = (1..NUMBERS)
-        .map(|number| format!("{number}: {}", tally.refused[number]))
+}
+
+/// The control: of lists of spans there were some that tell each wrong rule from the
+/// right one, unless they were few.
+fn control(tally: &Tally) -> bool {
+    let names = spans::WRONG.iter().map(|(name, _)| name);
+    let told: Vec<String> = names
+        .zip(&tally.told)
+        .map(|(name, told)| format!("{name}: {told}"))
         .collect();
-    println!("refused by number: {}", numbers.join(", "));
+    println!("lists by which wrong rules are told: {}", told.join(", "));
+    let are_few = tally.rows[Row::ShowRandom as usize].inputs < ENOUGH_LISTS;
+    are_few || tally.told.iter().all(|told| *told > 0)
+}
+
+fn print_states(tally: &Tally) {
     for (file, range) in [
         ("html_flow.rs", flow_states()),
         ("html_text.rs", text_states()),
@@ -709,18 +790,31 @@ fn report(tally: &Tally, options: &Options, begun: Instant) -> ExitCode {
             "{file}: {seen} of {all} states visited, {pairs} pairs of a state and one of {CLASSES} classes of bytes"
         );
     }
+}
+
+fn report(tally: &Tally, options: &Options, begun: Instant) -> ExitCode {
+    print_rows(tally);
+    let of_rust: u64 = SCANS
+        .iter()
+        .chain(&[Row::WithholdAll, Row::WithholdRandom, Row::WithholdLong])
+        .map(|row| tally.rows[*row as usize].scans)
+        .sum();
+    let numbers: Vec<String> = (1..NUMBERS)
+        .map(|number| format!("{number}: {}", tally.refused[number]))
+        .collect();
+    println!("refused by number: {}", numbers.join(", "));
+    let is_told = control(tally);
+    print_states(tally);
     println!(
         "seed {}, {} random texts, {of_rust} scans of the Rust, {} s",
         options.seed,
         options.count,
         begun.elapsed().as_secs()
     );
-    let failed = tally
-        .rows
-        .iter()
-        .filter(|count| count.differences > 0)
-        .count();
-    println!("{} passed, {failed} failed", ROWS.len() - failed);
+    let rows = tally.rows.iter().map(|count| count.differences == 0);
+    let outcomes = rows.chain([is_told]);
+    let failed = outcomes.filter(|passed| !passed).count();
+    println!("{} passed, {failed} failed", ROWS.len() + 1 - failed);
     if failed == 0 {
         ExitCode::SUCCESS
     } else {

@@ -7,13 +7,21 @@ use crate::fragments;
 use crate::table;
 use reference::{HTML_BLOCK_NAMES, HTML_RAW_NAMES};
 
+/// The most pieces of a bulletin of which each stretch is asked for (check.rs).
+pub const ALL_STRETCHES: usize = 64;
+
+/// Many pieces, of few bytes each: for every one the Rust reads from the start.
+const MANY_PIECES: usize = 500;
+
 /// What is asked of a text. The bulletins of a family that is to be withheld are
-/// filtered too.
+/// filtered too, and what is withheld is found first and shown afterwards.
 #[derive(Clone, Copy, Debug, Eq, PartialEq)]
 pub enum Kind {
     Inline,
     Block,
     Withhold,
+    Find,
+    Show,
     Filter,
     Read,
     Convert(Way),
@@ -384,6 +392,21 @@ impl List {
         self.add(Kind::Withhold, everywhere, parts);
     }
 
+    /// Pieces again and again: about as many as all stretches are asked of, and many.
+    fn many_pieces(&mut self) {
+        let units: [&[u8]; 5] = [b"<b>", b"<b>c", b"<!-->\n", b"<div>\n\n", b"\\\\<?x?>d"];
+        let about = ALL_STRETCHES - 2..=ALL_STRETCHES + 2;
+        let counts = about.chain([MANY_PIECES]);
+        let parts = vec![
+            strings(&[b"", b"x", b"<p>\n\n"]),
+            counts
+                .flat_map(|count| units.map(|unit| unit.repeat(count)))
+                .collect(),
+            strings(&[b"", b"x"]),
+        ];
+        self.add(Kind::Withhold, false, parts);
+    }
+
     /// Tags with the filter's names, of which not all count: in blocks and
     /// paragraphs, behind backslashes there, and in the comments and values there.
     fn filtered_names(&mut self) {
@@ -458,6 +481,7 @@ pub fn all(long: bool) -> Vec<Family> {
     list.blocks();
     list.screens();
     list.backslashes();
+    list.many_pieces();
     list.filtered_names();
     list.filtered_runs();
     list.families

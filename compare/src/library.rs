@@ -26,7 +26,7 @@ pub struct Inline {
     pub stop: usize,
 }
 
-/// What a trace, a conversion or the filter wrote.
+/// What a trace, a conversion, the filter or showing wrote.
 #[repr(C)]
 #[derive(Clone, Copy, Debug, Eq, PartialEq)]
 pub struct Written {
@@ -52,6 +52,22 @@ pub struct Shown {
     pub refusal: u8,
     pub length: usize,
     pub pieces: usize,
+}
+
+/// What finding wrote: spans.
+#[repr(C)]
+#[derive(Clone, Copy, Debug, Eq, PartialEq)]
+pub struct Spans {
+    pub refusal: u8,
+    pub count: usize,
+}
+
+/// A part of a bulletin.
+#[repr(C)]
+#[derive(Clone, Copy, Debug, Eq, PartialEq)]
+pub struct Part {
+    pub start: usize,
+    pub length: usize,
 }
 
 extern "C" {
@@ -93,11 +109,36 @@ extern "C" {
         out: *mut u8,
         out_len: usize,
     ) -> Written;
+    fn foringamo_find(
+        bulletin: *const u8,
+        bulletin_len: usize,
+        flags: *const u8,
+        flags_len: usize,
+        spans: *mut u32,
+        spans_len: usize,
+    ) -> Spans;
+    fn foringamo_show(
+        bulletin: *const u8,
+        bulletin_len: usize,
+        spans: *const u32,
+        spans_len: usize,
+        out: *mut u8,
+        out_len: usize,
+    ) -> Written;
+    fn foringamo_stretch(
+        bulletin: *const u8,
+        bulletin_len: usize,
+        spans: *const u32,
+        spans_len: usize,
+        number: usize,
+    ) -> Part;
     fn foringamo_withhold(
         bulletin: *const u8,
         bulletin_len: usize,
         flags: *const u8,
         flags_len: usize,
+        spans: *mut u32,
+        spans_len: usize,
         out: *mut u8,
         out_len: usize,
     ) -> Shown;
@@ -168,13 +209,53 @@ pub fn convert(way: Way, trace: &[u8], out: &mut [u8]) -> Written {
     unsafe { call(trace.as_ptr(), trace.len(), out.as_mut_ptr(), out.len()) }
 }
 
-pub fn withhold(bulletin: &[u8], flags: &[u8], out: &mut [u8]) -> Shown {
+pub fn find(bulletin: &[u8], flags: &[u8], spans: &mut [u32]) -> Spans {
+    unsafe {
+        foringamo_find(
+            bulletin.as_ptr(),
+            bulletin.len(),
+            flags.as_ptr(),
+            flags.len(),
+            spans.as_mut_ptr(),
+            spans.len(),
+        )
+    }
+}
+
+pub fn show(bulletin: &[u8], spans: &[u32], out: &mut [u8]) -> Written {
+    unsafe {
+        foringamo_show(
+            bulletin.as_ptr(),
+            bulletin.len(),
+            spans.as_ptr(),
+            spans.len(),
+            out.as_mut_ptr(),
+            out.len(),
+        )
+    }
+}
+
+pub fn stretch(bulletin: &[u8], spans: &[u32], number: usize) -> Part {
+    unsafe {
+        foringamo_stretch(
+            bulletin.as_ptr(),
+            bulletin.len(),
+            spans.as_ptr(),
+            spans.len(),
+            number,
+        )
+    }
+}
+
+pub fn withhold(bulletin: &[u8], flags: &[u8], spans: &mut [u32], out: &mut [u8]) -> Shown {
     unsafe {
         foringamo_withhold(
             bulletin.as_ptr(),
             bulletin.len(),
             flags.as_ptr(),
             flags.len(),
+            spans.as_mut_ptr(),
+            spans.len(),
             out.as_mut_ptr(),
             out.len(),
         )

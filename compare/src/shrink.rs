@@ -5,6 +5,7 @@ use crate::conversion::Way;
 use crate::families::Kind;
 use crate::fragments::LONGEST;
 use crate::hex::to_hex;
+use crate::spans::NUMBERS;
 use reference::line_starts;
 use std::time::{Duration, Instant};
 
@@ -13,6 +14,9 @@ const PATIENCE: Duration = Duration::from_secs(20);
 
 /// How long a record is, of events and the last, narrow and wide.
 const RECORD_LENGTHS: [usize; 4] = [8, 14, 4, 6];
+
+/// In a list so many numbers are taken out and made less.
+const MOST_LISTED: usize = 64;
 
 /// From a trace of fewer bytes so many are deleted at each place in turn.
 const SHORT: usize = 1_000;
@@ -36,17 +40,41 @@ pub struct Ask {
     pub kind: Kind,
     pub bytes: Vec<u8>,
     pub flags: Vec<u8>,
+    /// The spans beside which it is shown.
+    pub list: Vec<u32>,
     /// The index, the number of a record, or the room of a buffer.
     pub index: usize,
     pub carry: u8,
 }
 
 impl Ask {
+    /// With nothing but bytes.
+    pub fn new(kind: Kind, bytes: &[u8]) -> Ask {
+        Ask {
+            kind,
+            bytes: bytes.to_vec(),
+            flags: vec![],
+            list: vec![],
+            index: 0,
+            carry: 0,
+        }
+    }
+
+    /// The same of a bulletin with flags.
+    pub fn with_flags(self, flags: &[u8]) -> Ask {
+        Ask {
+            flags: flags.to_vec(),
+            ..self
+        }
+    }
+
     pub fn outcome(&self, work: &mut Work) -> Outcome {
         match self.kind {
             Kind::Inline => check::inline(&self.bytes, self.index, self.carry, work),
             Kind::Block => check::block(&self.bytes, &self.flags, self.index, work),
             Kind::Withhold => check::withhold(&self.screen(work), work),
+            Kind::Find => check::find(&self.screen(work), work),
+            Kind::Show => check::show(&self.bytes, &self.list, work),
             Kind::Filter => check::filter(&self.screen(work), work),
             Kind::Read => check::read(&self.bytes, self.index),
             Kind::Convert(way) => check::convert(&self.bytes, way, self.index, work),
@@ -77,6 +105,8 @@ impl Ask {
             Kind::Inline => "inline scan",
             Kind::Block => "block scan",
             Kind::Withhold => "withholding",
+            Kind::Find => "finding and showing",
+            Kind::Show => "showing",
             Kind::Filter => "tag filter",
             Kind::Read => "trace reading",
             Kind::Convert(Way::Widen) => "narrow trace to wide",
@@ -92,7 +122,8 @@ impl Ask {
         text += &match self.kind {
             Kind::Inline => format!("\n  index {}, carry {}", self.index, self.carry),
             Kind::Block => format!("\n  flags {flags}, index {}", self.index),
-            Kind::Withhold | Kind::Filter => format!("\n  flags {flags}"),
+            Kind::Withhold | Kind::Find | Kind::Filter => format!("\n  flags {flags}"),
+            Kind::Show => format!("\n  spans {:?}", self.list),
             Kind::Read => format!("\n  record {}", self.index),
             Kind::Convert(_) => format!("\n  other room {}", self.index),
         };
@@ -159,7 +190,36 @@ impl Ask {
             small.carry -= 1;
             all.push(small);
         }
+        all.extend(self.with_lists());
         all
+    }
+
+    /// With each number of the list, or of a long one those in front, taken out or
+    /// made less, and each span taken out.
+    fn with_lists(&self) -> Vec<Ask> {
+        let mut lists = vec![];
+        for at in 0..self.list.len().min(MOST_LISTED) {
+            let (front, behind) = self.list.split_at(at);
+            let number = behind[0];
+            lists.push([front, &behind[1..]].concat());
+            lists.push([front, behind.get(NUMBERS..).unwrap_or(&[])].concat());
+            for less in [0, number / 2, number.saturating_sub(1)] {
+                if less < number {
+                    lists.push([front, &[less], &behind[1..]].concat());
+                }
+            }
+        }
+        let asks = lists.into_iter().map(|list| Ask {
+            list,
+            ..self.clone()
+        });
+        asks.collect()
+    }
+
+    /// What is made smaller.
+    fn size(&self) -> (usize, Vec<u8>, Vec<u32>, usize, u8) {
+        let (flags, list) = (self.flags.clone(), self.list.clone());
+        (self.bytes.len(), flags, list, self.index, self.carry)
     }
 }
 
@@ -169,7 +229,7 @@ pub fn shrink(ask: &Ask) -> (Ask, Difference) {
     let what = best.difference().expect("the input differs").what;
     let begun = Instant::now();
     loop {
-        let before = (best.bytes.len(), best.flags.clone(), best.index, best.carry);
+        let before = best.size();
         let mut size = best.bytes.len();
         while size > 0 {
             let mut from = 0;
@@ -190,7 +250,7 @@ pub fn shrink(ask: &Ask) -> (Ask, Difference) {
         {
             best = small;
         }
-        if before == (best.bytes.len(), best.flags.clone(), best.index, best.carry) {
+        if before == best.size() {
             break;
         }
     }

@@ -1,5 +1,5 @@
 //! docs/SCOPE.md, Withhold, with its Backslash before a tag, over the Rust's
-//! scans: the pieces of a bulletin, and what is shown without them.
+//! scans: the pieces of a bulletin, their spans, and what is shown without them.
 
 use reference::{blank, block, inline, line_end, line_starts};
 use std::ops::Range;
@@ -99,6 +99,13 @@ impl Pieces {
         }
         bytes.extend_from_slice(&bulletin[from..]);
         bytes
+    }
+
+    /// The list of spans: start, stop, and 0 for an inline piece or 1 for a block.
+    pub fn spans(&self) -> Vec<u32> {
+        let ends = |piece: &Piece| [piece.range.start, piece.range.end].map(|end| end as u32);
+        let span = |piece: &Piece| ends(piece).into_iter().chain([u32::from(piece.block)]);
+        self.all.iter().flat_map(span).collect()
     }
 
     /// With nothing in its place.
