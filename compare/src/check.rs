@@ -1,5 +1,5 @@
 //! One comparison of each kind: what the Rust and the table and rules of
-//! docs/SCOPE.md and include/foringamo.h say against what the library says.
+//! docs/SCOPE.md say against what the library says.
 
 use crate::closer;
 use crate::conversion::{self, Way};

@@ -1,6 +1,6 @@
-//! Lists of spans by the words of include/foringamo.h: which are taken, what is
-//! shown beside them, and the stretches between them. Each sentence stands alone
-//! here, over the whole list.
+//! docs/SCOPE.md, Find first, show afterwards, by the plain rule, each sentence over
+//! the whole list: which lists of spans are taken, what is shown beside them, and the
+//! stretches between them; and rules that are wrong.
 
 use crate::library::Part;
 use crate::table;
