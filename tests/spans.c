@@ -322,7 +322,7 @@ static void most_spans(const reading *by) {
 }
 
 int main(void) {
-    enum { RANDOM = 20000 };
+    enum { RANDOM = 4000 };
     layout();
     find(&rust);
     find(&standard);
