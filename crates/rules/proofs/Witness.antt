@@ -7,12 +7,13 @@ use Rattle.lexical.specs.Name.{all, sameBytes}
 use Rattle.rules.specs.Reading.{Change, crate, standard, without}
 use Rattle.rules.specs.Scan.{InlineAnswer, inlineScan, BlockAnswer, blockScan}
 use Rattle.rules.specs.Partings.{Parts, Applies}
-use Rattle.rules.specs.Withhold.{count}
+use Rattle.rules.specs.Withhold.{pieces, count}
 use Rattle.rules.specs.Private.{isPrivate, Swap, in-line, in-block, SameRuns}
+use Rattle.rules.specs.Edition.{Passage, inOne, inTwo, text, keepsPrivate, withholdsAll, Edition}
 use Rattle.rules.specs.Rows.{sameInline, sameBlock}
 use Rattle.rules.specs.Computing.{computing}
-use Rattle.rules.specs.Witness.{eight, Place, inText, inBulletin, only, place, agree, each-applies, Row, body, whole, one, two, flags, consists, withheld, meets, swaps, swaps-meet}
-use Rattle.rules.specs.Counterexamples.{sameShown, sameCount, Excluded, excluded, bodies, brackets, needed, bytes-needed, bare, loose, unheld, enclosing-needed, escaped, withholding-needed, counted, count-tells}
+use Rattle.rules.specs.Witness.{eight, Place, inText, inBulletin, only, place, agree, each-applies, Row, body, whole, one, two, flags, consists, withheld, meets, swaps, swaps-meet, zeros, isEdition, editions, editions-meet}
+use Rattle.rules.specs.Counterexamples.{sameShown, sameCount, Excluded, excluded, rowOf, bodies, brackets, needed, bytes-needed, bare, loose, unheld, enclosing-needed, escaped, withholding-needed, withheldAlone, ending, first-body-needed, counted, count-tells}
 use Rattle.rules.specs.declared.Rules.{Rules}
 use Rattle.rules.proofs.Same.{told-apart, inline-self, block-self}
 
@@ -51,6 +52,23 @@ crate-swaps = each (SwapOf crate) (meets crate) (swap crate) swaps (and_parts (a
 pub standard-swaps : Each (SwapOf standard) swaps
 standard-swaps = each (SwapOf standard) (meets standard) (swap standard) swaps (and_parts (all (meets crate) swaps) (all (meets standard) swaps) swaps-meet).1
 
+-- and so there is an edition
+abbrev pub EditionOf : Rules → List Passage → Type 0
+EditionOf ρ ps = Edition ρ (zeros ps) (text inOne ps) (text inTwo ps)
+
+pub edition-of : (ρ : Rules) (ps : List Passage) → isEdition ρ ps ≡ true → EditionOf ρ ps
+edition-of ρ ps h =
+    let premises = and_parts (all keepsPrivate ps) (withholdsAll (pieces ρ (text inOne ps) (zeros ps)) [] ps) h in
+    record { passages = ps; one-is = refl; two-is = refl; private = premises.0; withheld = premises.1 }
+
+pub crate-editions : Each (EditionOf crate) editions
+crate-editions = each (EditionOf crate) (isEdition crate) (edition-of crate) editions (and_parts (all (isEdition crate) editions) _ editions-meet).0
+
+pub standard-editions : Each (EditionOf standard) editions
+standard-editions =
+    each (EditionOf standard) (isEdition standard) (edition-of standard) editions
+    (and_parts (all (isEdition standard) editions) _ (and_parts (all (isEdition crate) editions) _ editions-meet).1).0
+
 -- ---- what a test tells apart is not equal
 same-self : (s : List ℕ) → sameBytes s s ≡ true
 unfolding sameBytes
@@ -63,10 +81,6 @@ Differ ρ r = ¬ (SameRuns ρ (flags r) (one r) (two r))
 
 differ : (ρ : Rules) (r : Row) → not (sameShown ρ r) ≡ true → Differ ρ r
 differ ρ r h s = told-apart sameBytes _ _ (same-self _) (not-true (sameShown ρ r) h) s.same-bytes
-
--- the row of an excluded byte
-abbrev pub rowOf : Excluded → Row
-rowOf (excluded b r) = r
 
 needed-differ : (ρ : Rules) (e : Excluded) → needed ρ e ≡ true → Differ ρ (rowOf e)
 needed-differ ρ (excluded b r) h = differ ρ r (and_parts (not (sameShown ρ r)) _ h).0
@@ -83,6 +97,9 @@ loose-differ = each (Differ crate) (unheld crate) (unheld-differ crate) (bare �
 
 pub escaped-differs : Differ crate escaped
 escaped-differs = unheld-differ crate escaped (and_parts (unheld crate escaped) (unheld standard escaped) withholding-needed).0
+
+pub first-body-differs : Differ crate ending
+first-body-differs = differ crate ending (and_parts (withheldAlone crate ending) _ first-body-needed).1
 
 -- the count alone
 pub count-differs : Differ crate counted

@@ -9,8 +9,9 @@ use Rattle.rules.specs.Scan.{inlineScan, blockScan}
 use Rattle.rules.specs.Trace.{eventRecord, lastRecord, recordBytes, inlineTrace, blockTrace, recordAt}
 use Rattle.rules.specs.Withhold.{pieces, holds, shown, count}
 use Rattle.rules.specs.Private.{isPrivate, any, Form, comment, declaration, cdata}
+use Rattle.rules.specs.Edition.{keepsPrivate, withholdsAll}
 use Rattle.rules.specs.Computing.{computing}
-use Rattle.rules.specs.Witness.{Row, body, whole, one, two, flags, consists, withheld, kind, said, asSaid, accepted}
+use Rattle.rules.specs.Witness.{Row, body, whole, one, two, flags, consists, withheld, kind, said, asSaid, accepted, passagesOf}
 use Rattle.rules.specs.declared.Rules.{Rules}
 
 -- the two runs show the same bytes, and count the same
@@ -27,6 +28,9 @@ pub data Excluded : Type 0 where
 -- a declaration, whose closer is the last byte of every other closer
 abbrev pub declared : Form
 declared = declaration (byte "A") refl
+
+abbrev pub rowOf : Excluded → Row
+rowOf (excluded b r) = r
 
 unfoldable pub bodies : List Excluded
 bodies =
@@ -95,6 +99,26 @@ pub withholding-needed : (unheld crate escaped && unheld standard escaped) ≡ t
 unfolding computing
 withholding-needed = refl
 
+-- ---- several private pieces: the rows above, as passages, meet either premise alone, and so the other is needed
+abbrev pub privateAlone : Rules → Row → Bool
+privateAlone ρ r = all keepsPrivate (passagesOf r) && not (withholdsAll (pieces ρ (one r) (flags r)) [] (passagesOf r))
+
+abbrev pub withheldAlone : Rules → Row → Bool
+withheldAlone ρ r = withholdsAll (pieces ρ (one r) (flags r)) [] (passagesOf r) && not (all keepsPrivate (passagesOf r))
+
+pub edition-premises-needed : (all (λ r. privateAlone crate r && privateAlone standard r) (escaped ∷ bare ∷ loose) && all (λ e. withheldAlone crate (rowOf e)) (brackets ++ bodies)) ≡ true
+unfolding computing loose bodies brackets
+edition-premises-needed = refl
+
+-- the first body has to be private, too: its `</pre` ends a block, which goes on behind the second
+abbrev pub ending : Row
+ending = body 1 (bytes "<pre>\n") declared (bytes "</pre") (bytes "x") (bytes "\nc")
+
+pub first-body-needed : (withheldAlone crate ending && not (sameShown crate ending)) ≡ true
+unfolding computing
+first-body-needed = refl
+
+-- ---- the count
 -- one piece becomes two: the bytes shown are the same, the count is not
 abbrev pub counted : Row
 counted = body 0 (bytes "a <?") declared (bytes "x") (bytes "?") (bytes "<?b?>")

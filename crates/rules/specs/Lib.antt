@@ -19,6 +19,7 @@ pub mod Changes
 pub mod Partings
 pub mod Examples
 pub mod Private
+pub mod Edition
 pub mod Computing
 pub mod Corners
 pub mod Witness

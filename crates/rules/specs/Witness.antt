@@ -1,7 +1,7 @@
 -- The right answer and privacy are no empty statements: readings that leave one change out, places where each change applies and where none does, traces that read back, and private
 -- pieces that exist.
 -- Each table is proved by one computed fact.
-use Rattle.std.specs.Prelude.{ℕ, zero, suc, ◌+◌, ◌≡◌, refl, Bool, true, false, ◌&&◌, ◌||◌, not, List, [], ◌∷◌, ◌++◌, map, eqb, length, replicate}
+use Rattle.std.specs.Prelude.{ℕ, zero, suc, ◌+◌, ◌≡◌, refl, Bool, true, false, ◌&&◌, ◌||◌, not, List, [], ◌∷◌, ◌++◌, map, eqb, leb, length, replicate}
 use Rattle.std.proofs.Common.{sym}
 use Rattle.lexical.specs.Text.{byte, bytes, pick}
 use Rattle.lexical.specs.Line.{lines}
@@ -14,6 +14,7 @@ use Rattle.rules.specs.Partings.{isFoundInline, inlineListed, foundKind, blockLi
 use Rattle.rules.specs.Trace.{wide, Record, eventRecord, lastRecord, refusedRecord, inlineTrace, blockTrace, readTrace}
 use Rattle.rules.specs.Withhold.{Which, inline, block, Piece, pieces, shown}
 use Rattle.rules.specs.Private.{isPrivate, any, Form, comment, instruction, declaration, cdata, around, spans, linesText, encloses, Swap, in-line, in-block, TwoRuns}
+use Rattle.rules.specs.Edition.{Passage, kept, bodies, wholeLines, inOne, inTwo, text, keepsPrivate, withholdsAll, Edition, EditionRuns}
 use Rattle.rules.specs.Rows.{sameBit, sameInline, sameBlock}
 use Rattle.rules.specs.Computing.{computing}
 use Rattle.rules.specs.declared.Rules.{Rules}
@@ -324,3 +325,116 @@ swaps-meet = refl
 pub swaps-accepted : all (λ r. accepted r && (asSaid crate r && asSaid standard r)) swaps ≡ true
 unfolding computing swaps
 swaps-accepted = refl
+
+-- ---- privacy: several private pieces
+-- two bodies and two pieces of lines that touch, written out
+pub edition : Edition crate (replicate 7 0) (bytes "a<!--x--><?y?>\n\n<!--\nx\ny\n-->") (bytes "a<!----><?zz?>\n\n<!--\n\nw w\n-->")
+unfolding computing
+edition =
+    record {
+      passages =
+          kept (bytes "a")
+          ∷ bodies comment (bytes "x") []
+          ∷ bodies instruction (bytes "y") (bytes "zz")
+          ∷ kept (bytes "\n\n<!--\n")
+          ∷ wholeLines (bytes "x" ∷ []) ([] ∷ [])
+          ∷ wholeLines (bytes "y" ∷ []) (bytes "w w" ∷ [])
+          ∷ kept (bytes "-->")
+          ∷ [];
+      one-is = refl;
+      two-is = refl;
+      private = refl;
+      withheld = refl;
+    }
+
+-- what privacy then gives: whatever private bytes two remarks have, the same is shown
+abbrev pub remarks : List ℕ → List ℕ → List Passage
+remarks s t = kept (bytes "a ") ∷ bodies comment [] s ∷ kept (bytes " b ") ∷ bodies comment [] t ∷ []
+
+pub any-remarks : EditionRuns crate → (s t : List ℕ) → all isPrivate s ≡ true → all isPrivate t ≡ true → bulletinRefusal (text inTwo (remarks s t)) (0 ∷ []) ≡ 0
+    → shown crate (text inTwo (remarks s t)) (0 ∷ []) ≡ bytes "a  b "
+unfolding computing
+any-remarks runs s t private-s private-t accepts =
+    let e : Edition crate (0 ∷ []) (text inOne (remarks s t)) (text inTwo (remarks s t)) =
+    record { passages = remarks s t; one-is = refl; two-is = refl; private = rw (private-s, private-t) refl; withheld = refl } in
+    sym (runs (0 ∷ []) (text inOne (remarks s t)) (text inTwo (remarks s t)) refl accepts e).same-bytes
+
+-- a row above, with its one piece
+abbrev pub passagesOf : Row → List Passage
+passagesOf (body k b f x y a) = kept b ∷ bodies f x y ∷ kept a ∷ []
+passagesOf (whole k b x y a) = kept (b ++ (byte "\n" ∷ [])) ∷ wholeLines x y ∷ kept a ∷ []
+
+-- all flags 0
+abbrev pub zeros : List Passage → List ℕ
+zeros ps = replicate (lines (text inOne ps)) 0
+
+-- the premises of privacy
+abbrev pub isEdition : Rules → List Passage → Bool
+isEdition ρ ps = all keepsPrivate ps && withholdsAll (pieces ρ (text inOne ps) (zeros ps)) [] ps
+
+-- neither run is refused
+abbrev pub areAccepted : List Passage → Bool
+areAccepted ps = eqb (bulletinRefusal (text inOne ps) (zeros ps)) 0 && eqb (bulletinRefusal (text inTwo ps) (zeros ps)) 0
+
+-- how many pieces are put in place of others
+abbrev pub swapped : List Passage → ℕ
+swapped [] = 0
+swapped (kept s ∷ ps) = swapped ps
+swapped (bodies f x y ∷ ps) = suc (swapped ps)
+swapped (wholeLines x y ∷ ps) = suc (swapped ps)
+
+unfoldable pub editions : List (List Passage)
+editions =
+    -- two bodies in a paragraph: an empty one that becomes long, and a long one that becomes empty, so that the bulletin on the way is longer than both
+    (kept (bytes "a ") ∷ bodies comment [] (bytes "xyz =/") ∷ kept (bytes " b ") ∷ bodies comment (bytes "xyz =/") [] ∷ [])
+    -- all four forms, one right behind the other
+    ∷ (bodies instruction (bytes "x") (bytes "yz")
+    ∷ bodies (declaration (byte "A") refl) (bytes " x") (bytes "x")
+    ∷ bodies cdata (bytes "x") []
+    ∷ bodies comment (bytes "x") (bytes "\\")
+    ∷ kept (bytes "a")
+    ∷ [])
+    -- in one tag's quoted value, the second behind a backslash
+    ∷ (kept (bytes "a <b c=\"") ∷ bodies comment (bytes "x") (bytes "yz\\") ∷ kept (bytes " \\") ∷ bodies cdata (bytes "x") [] ∷ kept (bytes "\"> b") ∷ [])
+    -- in a paragraph, and in blocks of kinds 6 and 7
+    ∷ (kept (bytes "<b> ")
+    ∷ bodies comment (bytes "x") (bytes "yz")
+    ∷ kept (bytes "\n<div>\n")
+    ∷ bodies comment (bytes "x") []
+    ∷ kept (bytes "\n\n<i>\n")
+    ∷ bodies instruction (bytes "x") (bytes "yz")
+    ∷ [])
+    -- lines and a body in one block, and lines behind it
+    ∷ (kept (bytes "<!--\n")
+    ∷ wholeLines (bytes "x" ∷ []) (bytes "y z" ∷ [])
+    ∷ bodies instruction (bytes "x") []
+    ∷ kept (bytes "\n")
+    ∷ wholeLines (bytes "x" ∷ [] ∷ []) ([] ∷ bytes "y" ∷ [])
+    ∷ kept (bytes "-->")
+    ∷ [])
+    -- lines right behind others, and none
+    ∷ (kept (bytes "<pre>\n")
+    ∷ wholeLines (bytes "x" ∷ []) ([] ∷ [])
+    ∷ wholeLines [] []
+    ∷ wholeLines (bytes "y" ∷ []) (bytes "w w" ∷ [])
+    ∷ kept (bytes "</pre>\na")
+    ∷ [])
+    -- lines in two blocks, and a body in the paragraph between
+    ∷ (kept (bytes "<?\n")
+    ∷ wholeLines (bytes "x" ∷ []) (bytes "yz" ∷ [])
+    ∷ kept (bytes "?>\na ")
+    ∷ bodies cdata (bytes "x") (bytes "[")
+    ∷ kept (bytes "\n<!A\n")
+    ∷ wholeLines (bytes "x" ∷ []) ([] ∷ [])
+    ∷ kept (bytes ">\nb")
+    ∷ [])
+    ∷ []
+
+-- every row is an edition, of two pieces or more, in the reading of the Rust and in the standard one, and so are the rows above; neither run is refused
+pub editions-meet : (all (isEdition crate) editions && (all (isEdition standard) editions && all (λ ps. leb 2 (swapped ps) && areAccepted ps) editions)) ≡ true
+unfolding computing editions
+editions-meet = refl
+
+pub swaps-are-editions : all (λ r. isEdition crate (passagesOf r) && isEdition standard (passagesOf r)) swaps ≡ true
+unfolding computing swaps
+swaps-are-editions = refl

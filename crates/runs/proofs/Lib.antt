@@ -15,5 +15,6 @@ pub mod PrivateLines
 pub mod Covered
 pub mod LineRuns
 pub mod TwoRuns
+pub mod EditionRuns
 pub mod Ordered
 pub mod Spans

@@ -16,7 +16,7 @@ use Rattle.runs.proofs.PrivateLines.{ledText, led-is, LineStretch, line-stretch}
 use Rattle.runs.proofs.LineRuns.{found}
 
 -- ---- no private lines: the two bulletins are one
-no-lines : (cs : List (List ℕ)) → length cs ≤ 0 → cs ≡ []
+pub no-lines : (cs : List (List ℕ)) → length cs ≤ 0 → cs ≡ []
 no-lines [] h = refl
 no-lines (c ∷ cs) h = absurd (omega arith)
 
@@ -29,7 +29,7 @@ same-pieces : (p : ℕ) (ps : List Piece) → Corresponding p (p + 0) (p + 0) ps
 same-pieces p [] = done
 same-pieces p (q ∷ ps) = next (at-same p q.start) (at-same p q.stop) (same-pieces p ps)
 
-led-some : (cs : List (List ℕ)) → 0 < length cs → 0 < length (ledText cs)
+pub led-some : (cs : List (List ℕ)) → 0 < length cs → 0 < length (ledText cs)
 led-some [] h = absurd (omega arith)
 led-some (c ∷ cs) h = omega arith
 

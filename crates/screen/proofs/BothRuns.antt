@@ -6,10 +6,10 @@ use Rattle.lexical.proofs.Cases.{split, clash}
 use Rattle.rules.specs.Refusal.{bulletinRefusal}
 use Rattle.rules.specs.Withhold.{shown, count, Shown, shows, refusedShown, written}
 use Rattle.rules.specs.Spans.{foundSpans, findRefusal, withhold, withholdRefusal}
-use Rattle.rules.specs.Private.{Swap}
+use Rattle.rules.specs.Edition.{Edition}
 use Rattle.rules.specs.declared.Rules.{Rules}
 use Rattle.rules.proofs.Refusals.{output-passed}
-use Rattle.runs.proofs.TwoRuns.{two-runs}
+use Rattle.runs.proofs.EditionRuns.{edition-runs}
 use Rattle.screen.specs.Both.{SameAnswers, Alike}
 
 abbrev lengthOf : Shown → ℕ
@@ -67,18 +67,18 @@ module _ (ρ : Rules) (text flags : List ℕ) (list : ℕ) (old : List ℕ) wher
 module _ (ρ : Rules) (flags one two : List ℕ) (list₁ list₂ : ℕ) (old₁ old₂ new₁ new₂ : List ℕ)
     (w₁ : new₁ ≡ written (withholdRefusal ρ one flags list₁ (length old₁)) (shown ρ one flags) old₁)
     (w₂ : new₂ ≡ written (withholdRefusal ρ two flags list₂ (length old₂)) (shown ρ two flags) old₂) where
-  same : (a b : Shown) → a ≡ withhold ρ one flags list₁ (length old₁) → b ≡ withhold ρ two flags list₂ (length old₂) → Swap ρ flags one two → SameAnswers a b new₁ new₂
-  same (shows n₁ c₁) (shows n₂ c₂) e f swap =
+  same : (a b : Shown) → a ≡ withhold ρ one flags list₁ (length old₁) → b ≡ withhold ρ two flags list₂ (length old₂) → Edition ρ flags one two → SameAnswers a b new₁ new₂
+  same (shows n₁ c₁) (shows n₂ c₂) e f edition =
       let s = shown-by ρ one flags list₁ old₁ n₁ c₁ new₁ e w₁ in
       let t = shown-by ρ two flags list₂ old₂ n₂ c₂ new₂ f w₂ in
-      let r = two-runs ρ flags one two s.taken t.taken swap in
+      let r = edition-runs ρ flags one two s.taken t.taken edition in
       record {
         same-bytes = s.bytes-are ∙ r.same-bytes ∙ sym t.bytes-are;
         same-length = s.length-is ∙ r.same-length ∙ sym t.length-is;
         same-count = s.count-is ∙ r.same-count ∙ sym t.count-is;
       }
-  same (shows n₁ c₁) (refusedShown q) e f swap = tt
-  same (refusedShown q) b e f swap = tt
+  same (shows n₁ c₁) (refusedShown q) e f edition = tt
+  same (refusedShown q) b e f edition = tt
 
   pub both-alike : (a b : Shown) → a ≡ withhold ρ one flags list₁ (length old₁) → b ≡ withhold ρ two flags list₂ (length old₂) → Alike ρ flags one two a b new₁ new₂
   both-alike a b e f = record { alike = same a b e f }

@@ -1,7 +1,7 @@
--- Two runs of the code where a private piece differs: docs/SCOPE.md, private pieces.
+-- Two runs of the code where private pieces differ: SCOPE, Several remarks swapped together.
 use Rattle.std.specs.Prelude.{◌≡◌, List, ℕ, take}
 use Rattle.rules.specs.Withhold.{Shown, shows, refusedShown}
-use Rattle.rules.specs.Private.{Swap}
+use Rattle.rules.specs.Edition.{Edition}
 use Rattle.rules.specs.declared.Rules.{Rules}
 
 -- the same bytes, the same length and the same count are shown, in the fronts of two buffers
@@ -16,6 +16,6 @@ SameAnswers (shows n₁ c₁) (shows n₂ c₂) buffer₁ buffer₂ = SameShown 
 SameAnswers (shows n₁ c₁) (refusedShown r) buffer₁ buffer₂ = Unit {0}
 SameAnswers (refusedShown r) b buffer₁ buffer₂ = Unit {0}
 
--- two bulletins that differ in one private piece, which run one withholds, with the answers of both runs and the buffers after them
+-- two bulletins that differ in any number of private pieces, which run one withholds, with the answers of both runs and the buffers after them
 pub record Alike (ρ : Rules) (flags one two : List ℕ) (a b : Shown) (buffer₁ buffer₂ : List ℕ) : Type 0 where
-  pub alike : Swap ρ flags one two → SameAnswers a b buffer₁ buffer₂
+  pub alike : Edition ρ flags one two → SameAnswers a b buffer₁ buffer₂

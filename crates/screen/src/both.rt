@@ -16,8 +16,8 @@ pub struct Both {
     pub two: Result<Withheld, Refusal>,
 }
 
-// Withholds from two bulletins with the same flags, in any reading, each into its own list and buffer. Where they differ only in a private piece that run one withholds,
-// and neither is refused, both show the same bytes, the same length and the same count, whatever stood in the buffers.
+// Withholds from two bulletins with the same flags, in any reading, each into its own list and buffer. Where they differ only in private pieces, any number of them, each
+// of which run one withholds, and neither is refused, both show the same bytes, the same length and the same count, whatever stood in the buffers.
 pub fn withhold_both(
     rules: Rules,
     one: &[u8],
