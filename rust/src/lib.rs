@@ -747,8 +747,10 @@ pub fn stretch<'a>(bulletin: &'a [u8], spans: &[Span], number: usize) -> &'a [u8
 /// Writes the bulletin without its raw HTML: [`find`], and then [`show`] beside what was found. A refusal leaves the list as it was, too. Room for `bulletin.len()`
 /// spans and as many bytes always suffices. Refusals 1, 2, 3, 7.
 ///
-/// Two bulletins that differ only in bytes kept private within a withheld piece show alike, and their lists have as many spans. But a list tells how long each piece
-/// is, and so does a bar of that length: do not show either where a length is private.
+/// Two bulletins that differ only in private pieces, in any number of them, show alike, and their lists have as many spans. Such a piece is the body of a comment, an
+/// instruction, a declaration or a CDATA section that is withheld with its opening and closer, or whole lines, as many in both, between the first line of a block of
+/// kinds 1 to 5 and the one with its closer, all and the line before ended by LF. It has no `<`, `>`, `"`, `'`, `?`, `]`, `-` or CR, and a body no LF. But a list tells
+/// how long each withheld piece is, and so does a bar of that length: do not show either where a length is private.
 ///
 /// ```
 /// use foringamo::{withhold, Shown, Span};

@@ -356,7 +356,7 @@ pub any-remarks : EditionRuns crate → (s t : List ℕ) → all isPrivate s ≡
 unfolding computing
 any-remarks runs s t private-s private-t accepts =
     let e : Edition crate (0 ∷ []) (text inOne (remarks s t)) (text inTwo (remarks s t)) =
-    record { passages = remarks s t; one-is = refl; two-is = refl; private = rw (private-s, private-t) refl; withheld = refl } in
+    record { passages = remarks s t; one-is = refl; two-is = refl; private = simp (private-s, private-t); withheld = refl } in
     sym (runs (0 ∷ []) (text inOne (remarks s t)) (text inTwo (remarks s t)) refl accepts e).same-bytes
 
 -- a row above, with its one piece
