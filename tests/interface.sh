@@ -147,7 +147,7 @@ if ! scripts/archive.sh 2>&1; then
     fails "there is no $archive of these sources to link"
 elif ! command -v cc >/dev/null; then
     # Rust's programs are linked by it too.
-    echo 'there is no cc: the examples, the programs of tests/ that are in C, and the package in rust/ are left out'
+    echo 'there is no cc: the examples, interface, filter, long, conversion, spans and editions of tests/, and the package in rust/ are left out'
 else
     in_c
     in_rust
