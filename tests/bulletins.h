@@ -10,6 +10,9 @@
 /* The most bytes that a bulletin or text has. */
 enum { LIMIT = 1000000 };
 
+/* Of a pseudo-random bulletin: the most bytes of a part, the most parts, and the most bytes. */
+enum { LONGEST_FRAGMENT = 13, MOST_FRAGMENTS = 30, SHORT = LONGEST_FRAGMENT * MOST_FRAGMENTS };
+
 /* One byte above the limit, and flags for as many lines as that can have. */
 static uint8_t big[LIMIT + 1];
 static const uint8_t zeros[LIMIT + 2];
@@ -88,14 +91,32 @@ static inline int is_escaped(const uint8_t *text, size_t start, size_t index) {
     return (index - first) % 2 == 1;
 }
 
-/* The inline pieces of a paragraph's text. */
-static inline void mark_paragraph(const reading *by, const uint8_t *text, size_t length, uint8_t *marks) {
+/* A piece: its first byte, the stop behind its last, and of a block its kind and whether its closer was met. */
+typedef struct {
+    size_t start;
+    size_t stop;
+    uint8_t kind; /* 0: an inline piece */
+    uint8_t closed;
+} screen_piece;
+
+/* The pieces of a short bulletin, in text order. */
+typedef struct {
+    size_t count;
+    screen_piece pieces[SHORT];
+} piece_list;
+
+static inline void put_piece(piece_list *list, size_t start, size_t stop, uint8_t kind, uint8_t closed) {
+    list->pieces[list->count++] = (screen_piece){start, stop, kind, closed};
+}
+
+/* The inline pieces of the paragraph between two indices. */
+static inline void list_paragraph(const reading *by, const screen_case *row, size_t first, size_t last, piece_list *list) {
+    const uint8_t *text = row->bulletin + first;
     size_t start = 0, index = 0;
-    while (index < length) {
-        foringamo_inline piece = by->inline_scan(text, length, index, 0);
+    while (index < last - first) {
+        foringamo_inline piece = by->inline_scan(text, last - first, index, 0);
         if (piece.found && !is_escaped(text, start, index)) {
-            memset(marks + index, INSIDE, piece.stop - index);
-            marks[index] = COUNTS;
+            put_piece(list, first + index, first + piece.stop, 0, 0);
             index = piece.stop;
             start = index;
         } else {
@@ -105,23 +126,35 @@ static inline void mark_paragraph(const reading *by, const uint8_t *text, size_t
 }
 
 /* The pieces of a bulletin, by the two scans of a reading, as withholding takes them: docs/SCOPE.md, Withhold. */
-static inline void mark_pieces(const reading *by, const screen_case *row, uint8_t *marks) {
+static inline void list_pieces(const reading *by, const screen_case *row, piece_list *list) {
     size_t index = 0;
-    memset(marks, OUTSIDE, row->length);
+    list->count = 0;
     for (;;) {
         size_t stop = line_stop(row, index);
         foringamo_block block = block_at(by, row, index);
         if (block.kind != 0) {
             stop = block.stop;
-            memset(marks + index, COUNTS, stop - index);
+            put_piece(list, index, stop, block.kind, block.closed);
         } else if (!is_blank(row, index)) {
             stop = paragraph_stop(by, row, index);
-            mark_paragraph(by, row->bulletin + index, stop - index, marks + index);
+            list_paragraph(by, row, index, stop, list);
         }
         if (stop == row->length) {
             return;
         }
         index = next_line(row, stop);
+    }
+}
+
+/* What the bytes of a bulletin are, by its pieces: in a block a tag counts everywhere, in an inline piece at its first byte. */
+static inline void mark_pieces(const reading *by, const screen_case *row, uint8_t *marks) {
+    static piece_list list;
+    list_pieces(by, row, &list);
+    memset(marks, OUTSIDE, row->length);
+    for (size_t i = 0; i < list.count; i++) {
+        const screen_piece *piece = &list.pieces[i];
+        memset(marks + piece->start, piece->kind != 0 ? COUNTS : INSIDE, piece->stop - piece->start);
+        marks[piece->start] = COUNTS;
     }
 }
 
@@ -133,14 +166,14 @@ static const char *const fragments[] = {
     "\n<a 1>\n", "\n<pre/>\n", "\\", "\\", "\\<", "\\\\<", "a", "Z", "9", "-", "=", "\"", "'",
 };
 
-enum { FRAGMENTS = sizeof fragments / sizeof *fragments, MOST_FRAGMENTS = 30, SHORT = 10 * MOST_FRAGMENTS };
+enum { FRAGMENTS = sizeof fragments / sizeof *fragments };
 
-/* A bulletin of some fragments, with some flags; nothing is shown of it yet. */
-static inline screen_case random_bulletin(void) {
+/* A bulletin of some of these parts, with some flags; nothing is shown of it yet. */
+static inline screen_case random_bulletin_of(const char *const *parts, size_t number) {
     static uint8_t bulletin[SHORT], flags[SHORT + 1];
     size_t length = 0;
     for (size_t count = below(MOST_FRAGMENTS + 1); count > 0; count--) {
-        const char *fragment = fragments[below(FRAGMENTS)];
+        const char *fragment = parts[below(number)];
         memcpy(bulletin + length, fragment, strlen(fragment));
         length += strlen(fragment);
     }
@@ -149,6 +182,10 @@ static inline screen_case random_bulletin(void) {
         flags[line] = (uint8_t)(below(4) == 0 ? below(4) : 0);
     }
     return row;
+}
+
+static inline screen_case random_bulletin(void) {
+    return random_bulletin_of(fragments, FRAGMENTS);
 }
 
 /* Whether withholding shows the bytes that are outside of these pieces. */

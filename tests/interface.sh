@@ -1,7 +1,7 @@
 #!/usr/bin/env bash
 # The C interface, as a user links it: the examples in C and in Rust write what examples/expected.txt has, tests/interface.c walks the refusals and the readings,
-# tests/filter.c the tag filter, tests/long.c long bulletins, tests/conversion.c old traces across and back, tests/spans.c finding and showing, and the Rust package in
-# rust/ passes its tests without a warning, built by cargo and by rustc alone.
+# tests/filter.c the tag filter, tests/long.c long bulletins, tests/conversion.c old traces across and back, tests/spans.c finding and showing, tests/editions.c
+# bulletins with other private pieces, and the Rust package in rust/ passes its tests without a warning, built by cargo and by rustc alone.
 #
 #     tests/interface.sh
 #
@@ -114,7 +114,7 @@ in_c() {
         fails 'examples/example.c: not compiled'
     fi
     local program
-    for program in interface filter long conversion spans; do
+    for program in interface filter long conversion spans editions; do
         if compile_c "tests/$program.c" "$built/$program"; then
             walks "tests/$program.c" "$built/$program"
         else
@@ -147,7 +147,7 @@ if ! scripts/archive.sh 2>&1; then
     fails "there is no $archive of these sources to link"
 elif ! command -v cc >/dev/null; then
     # Rust's programs are linked by it too.
-    echo 'there is no cc: the examples, tests/interface.c, tests/filter.c, tests/long.c, tests/conversion.c, tests/spans.c and the package in rust/ are left out'
+    echo 'there is no cc: the examples, interface, filter, long, conversion, spans and editions of tests/, and the package in rust/ are left out'
 else
     in_c
     in_rust

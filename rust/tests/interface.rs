@@ -169,6 +169,20 @@ fn withheld() {
     }
 }
 
+// An edition of a bulletin, with others in place of its six private pieces, shows alike: bodies that touch in a paragraph and in a tag's value, and a body and two
+// lines in a block.
+#[test]
+fn editions() {
+    for (bulletin, spans) in [
+        (&b"a <!--x--><?y?>\n<!--\nl\nm\n--><!Zz>\nb <i c='<!--v--><?w?>'>d"[..], [span(2, 10, 0), span(10, 15, 0), span(16, 33, 1), span(36, 57, 0)]),
+        (b"a <!----><?longer?>\n<!--\n\nmmm\n--><!Z>\nb <i c='<!--==--><??>'>d", [span(2, 9, 0), span(9, 19, 0), span(20, 37, 1), span(40, 61, 0)]),
+    ] {
+        for withhold in [withhold, standard_withhold] {
+            withholds(withhold, bulletin, &spans, b"a \n\nb d");
+        }
+    }
+}
+
 #[test]
 fn found() {
     for find in [find, standard_find] {

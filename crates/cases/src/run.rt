@@ -21,6 +21,8 @@
 //     f    whether a line of a block of the digit's kind has its closer, by the lent step with all eight changes (readers.rt)
 //     F    the same with none of the changes (readers.rt)
 //     q    the stretch of the index; the digits are the numbers of the spans (found.rt)
+//     k    two runs of withholding: one of the text up to the index, and one of what is behind it, with the same flags (screens.rt)
+//     K    two runs of withholding by the standard (screens.rt)
 //
 // `ROOM LENGTH FLAGS TEXT`, the same with two numbers; the text comes again and again up to the length:
 //
@@ -77,6 +79,8 @@ fn answer(alloc: Global, out: &mut impl Write, letter: u8, case: &Case) -> io::R
         b'F' => readers::closes(out, case, standard_rules()),
         b'w' => screens::withheld(alloc, out, case, crate_rules()),
         b'W' => screens::withheld(alloc, out, case, standard_rules()),
+        b'k' => screens::both(alloc, out, case, crate_rules()),
+        b'K' => screens::both(alloc, out, case, standard_rules()),
         b'g' => screens::filtered(alloc, out, case),
         b'u' => found::found(alloc, out, case, crate_rules()),
         b'U' => found::found(alloc, out, case, standard_rules()),

@@ -1,11 +1,12 @@
 // Cases of withholding and of the tag filter. The text is the bulletin.
-use crate::case::{Case, is_as_it_was};
+use crate::case::{Case, is_as_it_was, output_buffer};
 use lexical::slice::from_indices;
 use rules::refusal::Refusal;
 use rules::{Rules, crate_rules};
-use screen::withhold::withhold;
+use screen::both::withhold_both;
+use screen::withhold::{Withheld, withhold};
 use spans::list::SPAN_NUMBERS;
-use std::alloc::Global;
+use std::alloc::{AllocError, Global};
 use std::io;
 use std::io::Write;
 use tagfilter::filter::filter;
@@ -43,19 +44,57 @@ fn show_refused(out: &mut impl Write, refusal: Refusal, buffer: &[u8]) -> io::Re
     write!(out, "{refusal}")
 }
 
-// Withholding in a reading, with room for all spans: `shown LENGTH PIECES BYTES`, the bytes with escapes, behind `same` where the output buffer is as it was behind them; or a refusal.
-pub fn withheld(alloc: Global, out: &mut impl Write, case: &Case, rules: Rules) -> io::Result<()> {
-    let mut list = vec![in alloc; 0; case.text.len().saturating_mul(SPAN_NUMBERS)]?;
-    let mut buffer = case.buffer(alloc)?;
-    match withhold(rules, &case.text, &case.flags, &mut list, &mut buffer) {
+// What was withheld: `shown LENGTH PIECES BYTES`, the bytes with escapes, behind `same` where the output buffer is as it was behind them; or a refusal.
+fn show_withheld(
+    out: &mut impl Write,
+    answer: Result<Withheld, Refusal>,
+    buffer: &[u8],
+) -> io::Result<()> {
+    match answer {
         Ok(withheld) => {
             let length = withheld.length;
-            show_same(out, &buffer, length)?;
+            show_same(out, buffer, length)?;
             write!(out, "shown {length} {} ", withheld.pieces)?;
-            show_bytes(out, from_indices(&buffer, 0, length))
+            show_bytes(out, from_indices(buffer, 0, length))
         }
-        Err(refusal) => show_refused(out, refusal, &buffer),
+        Err(refusal) => show_refused(out, refusal, buffer),
     }
+}
+
+// A list with room for all spans of a bulletin.
+fn list_for(alloc: Global, bulletin: &[u8]) -> Result<Vec<u32>, AllocError> {
+    vec![in alloc; 0; bulletin.len().saturating_mul(SPAN_NUMBERS)]
+}
+
+// Withholding in a reading, with room for all spans.
+pub fn withheld(alloc: Global, out: &mut impl Write, case: &Case, rules: Rules) -> io::Result<()> {
+    let mut list = list_for(alloc, &case.text)?;
+    let mut buffer = case.buffer(alloc)?;
+    let answer = withhold(rules, &case.text, &case.flags, &mut list, &mut buffer);
+    show_withheld(out, answer, &buffer)
+}
+
+// Two runs of withholding in a reading, with room for all: the first takes the text up to the index, and the second what is behind. Their answers, with ` and ` between.
+pub fn both(alloc: Global, out: &mut impl Write, case: &Case, rules: Rules) -> io::Result<()> {
+    let one = from_indices(&case.text, 0, case.index);
+    let two = from_indices(&case.text, case.index, case.text.len());
+    let mut first_list = list_for(alloc, one)?;
+    let mut first = output_buffer(alloc, one.len())?;
+    let mut second_list = list_for(alloc, two)?;
+    let mut second = output_buffer(alloc, two.len())?;
+    let both = withhold_both(
+        rules,
+        one,
+        two,
+        &case.flags,
+        &mut first_list,
+        &mut first,
+        &mut second_list,
+        &mut second,
+    );
+    show_withheld(out, both.one, &first)?;
+    write!(out, " and ")?;
+    show_withheld(out, both.two, &second)
 }
 
 // What was written: `written LENGTH BYTES`, the bytes with escapes, behind `same` where the output buffer is as it was behind them; or a refusal.

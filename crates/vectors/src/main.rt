@@ -46,6 +46,12 @@
 // in one alone 65,536 and more; traces with no final record, with two, and with one in the middle; a trace of two records cut off at every length; kinds 0, 15 and 255
 // first, in the middle, behind the last and alone; vs, carry and block kind 0 and 255; which refusal comes first; and buffers of the exact length, longer, one byte
 // short and of none. The answers are those of a model that was made for them from the words of the ask.
+//
+// 96 of two runs (`k`, `K`): 48 pairs of bulletins, each in either reading. 37 are editions, of two private pieces and more: bodies of each form in paragraphs, in the
+// values of a tag, in remarks and in blocks of each kind; lines in blocks of kinds 1 to 5, apart, one right behind the other, and beside bodies; bodies that become
+// empty, long, or both in one pair; backslashes, line endings and flags; three where the readings part; a bulletin twice, and the empty one twice. Five miss a premise,
+// one of them in the standard reading alone, and there the two answers differ. In six one run or both are refused, by 2 or 3. The answers are those of a model that was
+// made for them, of regular expressions and the flags and stops of SCOPE.
 #![tactic(auto)]
 
 use std::io;
