@@ -47,6 +47,10 @@
 // first, in the middle, behind the last and alone; vs, carry and block kind 0 and 255; which refusal comes first; and buffers of the exact length, longer, one byte
 // short and of none. The answers are those of a model that was made for them from the words of the ask.
 //
+// 345 of spans: 33 of finding (`u`) and 24 of finding by the standard (`U`), lists of every length about what is needed, pieces that touch, at either end and none,
+// flags, backslashes and the refusals 1, 2, 3 and 7; 143 of showing beside spans (`o`) and 145 of a stretch (`q`), with each condition of refusal 12 alone and with
+// others. The spans found are counted in the text; the answers of `o` and `q` are those of a model that was made for them from the words of SCOPE.
+//
 // 96 of two runs (`k`, `K`): 48 pairs of bulletins, each in either reading. 37 are editions, of two private pieces and more: bodies of each form in paragraphs, in the
 // values of a tag, in remarks and in blocks of each kind; lines in blocks of kinds 1 to 5, apart, one right behind the other, and beside bodies; bodies that become
 // empty, long, or both in one pair; backslashes, line endings and flags; three where the readings part; a bulletin twice, and the empty one twice. Five miss a premise,
