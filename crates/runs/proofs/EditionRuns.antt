@@ -1,7 +1,7 @@
 -- Privacy, of several private pieces. They are put in one after the other from the left, and each step is a pair of runs that differ in one piece. Where the pieces of
 -- two bulletins correspond, a piece of the one holds what stands behind the private bytes where the piece that corresponds does so in the other; so what run one
 -- withholds, each bulletin on the way withholds too, though some of them would be refused for their length.
-use Rattle.std.proofs.Common.{◌≡◌, refl, sym, ◌∙◌, ap, true, false, ◌&&◌, List, [], ◌∷◌, ◌++◌, append-nil, append_assoc, ℕ, ◌+◌, ◌<◌, add-zero, arith, eqb, ltb, length, length-append, eqb-true, eq-eqb, ltb-true, ltb-false}
+use Rattle.std.proofs.Common.{◌≡◌, refl, sym, ◌∙◌, ap, Bool, true, false, ◌&&◌, List, [], ◌∷◌, ◌++◌, append-nil, append_assoc, ℕ, ◌+◌, ◌<◌, add-zero, arith, eqb, ltb, length, length-append, eqb-true, eq-eqb, ltb-true, ltb-false}
 use Rattle.std.proofs.Math.Nat.{add_assoc}
 use Rattle.std.proofs.lemmas.Bool.{and_parts}
 use Rattle.lexical.specs.Text.{byte}
@@ -18,43 +18,43 @@ use Rattle.runs.proofs.PrivateLines.{ledText, led-is}
 use Rattle.runs.proofs.TwoRuns.{line-pieces, line-runs, led-some, no-lines}
 
 -- ---- what is withheld behind a place
--- what is withheld from i₁ on of the one is withheld from i₂ on of the other
+-- stretches that some piece of the one holds, or encloses, from i₁ on, and those of the other from i₂ on
+record Moves (f : ℕ → ℕ → Piece → Bool) (ps₁ ps₂ : List Piece) (i₁ i₂ : ℕ) : Type 0 where
+  stretch : (c d : ℕ) → any (f (i₁ + c) (i₁ + d)) ps₁ ≡ any (f (i₂ + c) (i₂ + d)) ps₂
+
 record Carried (ps₁ ps₂ : List Piece) (i₁ i₂ : ℕ) : Type 0 where
-  held : (c d : ℕ) → any (spans (i₁ + c) (i₁ + d)) ps₁ ≡ any (spans (i₂ + c) (i₂ + d)) ps₂
-  enclosed : (c d : ℕ) → any (encloses (i₁ + c) (i₁ + d)) ps₁ ≡ any (encloses (i₂ + c) (i₂ + d)) ps₂
+  held : Moves spans ps₁ ps₂ i₁ i₂
+  enclosed : Moves encloses ps₁ ps₂ i₁ i₂
 
 -- from a later place on
+moves-on : (f : ℕ → ℕ → Piece → Bool) {ps₁ ps₂ : List Piece} {i₁ i₂ k₁ k₂ : ℕ} (n : ℕ) → k₁ ≡ i₁ + n → k₂ ≡ i₂ + n → Moves f ps₁ ps₂ i₁ i₂ → Moves f ps₁ ps₂ k₁ k₂
+moves-on f {i₁ = i₁} {i₂} n e₁ e₂ w =
+    record { stretch = λ c d. rw (e₁, e₂, add_assoc i₁ n c, add_assoc i₁ n d, add_assoc i₂ n c, add_assoc i₂ n d) (w.stretch (n + c) (n + d)) }
+
+moves-both : (f : ℕ → ℕ → Piece → Bool) {ps₁ ps₂ ps₃ : List Piece} {i₁ i₂ i₃ : ℕ} → Moves f ps₁ ps₂ i₁ i₂ → Moves f ps₂ ps₃ i₂ i₃ → Moves f ps₁ ps₃ i₁ i₃
+moves-both f v w = record { stretch = λ c d. v.stretch c d ∙ w.stretch c d }
+
 carried-on : {ps₁ ps₂ : List Piece} {i₁ i₂ k₁ k₂ : ℕ} (n : ℕ) → k₁ ≡ i₁ + n → k₂ ≡ i₂ + n → Carried ps₁ ps₂ i₁ i₂ → Carried ps₁ ps₂ k₁ k₂
-carried-on {i₁ = i₁} {i₂} {k₁} {k₂} n e₁ e₂ w =
-    record {
-      held = λ c d. rw (e₁, e₂, add_assoc i₁ n c, add_assoc i₁ n d, add_assoc i₂ n c, add_assoc i₂ n d) (w.held (n + c) (n + d));
-      enclosed = λ c d. rw (e₁, e₂, add_assoc i₁ n c, add_assoc i₁ n d, add_assoc i₂ n c, add_assoc i₂ n d) (w.enclosed (n + c) (n + d));
-    }
+carried-on n e₁ e₂ w = record { held = moves-on spans n e₁ e₂ w.held; enclosed = moves-on encloses n e₁ e₂ w.enclosed }
 
 -- behind the bytes that differ
 carried-moves : (p j₁ j₂ : ℕ) → p < j₁ → p < j₂ → {ps₁ ps₂ : List Piece} → Corresponding p j₁ j₂ ps₁ ps₂ → Carried ps₁ ps₂ j₁ j₂
 carried-moves p j₁ j₂ h₁ h₂ w =
     record {
-      held = λ c d. spans-moves p j₁ j₂ h₁ h₂ w (late c) (late d);
-      enclosed = λ c d. encloses-moves p j₁ j₂ h₁ h₂ w (late c) (late d);
+      held = record { stretch = λ c d. spans-moves p j₁ j₂ h₁ h₂ w (late c) (late d) };
+      enclosed = record { stretch = λ c d. encloses-moves p j₁ j₂ h₁ h₂ w (late c) (late d) };
     }
 
 carried-both : {ps₁ ps₂ ps₃ : List Piece} {i₁ i₂ i₃ : ℕ} → Carried ps₁ ps₂ i₁ i₂ → Carried ps₂ ps₃ i₂ i₃ → Carried ps₁ ps₃ i₁ i₃
-carried-both v w = record { held = λ c d. v.held c d ∙ w.held c d; enclosed = λ c d. v.enclosed c d ∙ w.enclosed c d }
+carried-both v w = record { held = moves-both spans v.held w.held; enclosed = moves-both encloses v.enclosed w.enclosed }
 
 -- a stretch that begins there
-module _ {ps₁ ps₂ : List Piece} (u₁ u₂ : List ℕ) (w : Carried ps₁ ps₂ (length u₁) (length u₂)) (m : List ℕ) where
-  held-there : any (spans (length u₁) (length (u₁ ++ m))) ps₁ ≡ true → any (spans (length u₂) (length (u₂ ++ m))) ps₂ ≡ true
-  held-there h =
-      let k = rw (length-append u₁ m) at h in
-      let e = rw (add-zero (length u₁), add-zero (length u₂)) at (w.held 0 (length m)) in
-      rw (length-append u₂ m) (sym e ∙ k)
-
-  enclosed-there : any (encloses (length u₁) (length (u₁ ++ m))) ps₁ ≡ true → any (encloses (length u₂) (length (u₂ ++ m))) ps₂ ≡ true
-  enclosed-there h =
-      let k = rw (length-append u₁ m) at h in
-      let e = rw (add-zero (length u₁), add-zero (length u₂)) at (w.enclosed 0 (length m)) in
-      rw (length-append u₂ m) (sym e ∙ k)
+moves-there : (f : ℕ → ℕ → Piece → Bool) {ps₁ ps₂ : List Piece} (u₁ u₂ m : List ℕ) → Moves f ps₁ ps₂ (length u₁) (length u₂)
+    → any (f (length u₁) (length (u₁ ++ m))) ps₁ ≡ true → any (f (length u₂) (length (u₂ ++ m))) ps₂ ≡ true
+moves-there f u₁ u₂ m w h =
+    let k = rw (length-append u₁ m) at h in
+    let e = rw (add-zero (length u₁), add-zero (length u₂)) at (w.stretch 0 (length m)) in
+    rw (length-append u₂ m) (sym e ∙ k)
 
 -- ---- whether bytes end in LF
 ends-behind : (u : List ℕ) (x : ℕ) (t : List ℕ) → endsInLineFeed (u ++ (x ∷ t)) ≡ endsInLineFeed (x ∷ t)
@@ -118,7 +118,7 @@ module _ (ρ : Rules) (flags : List ℕ) (ps : List Piece) (old new rest : List 
       let p = length new in
       let m = carried-moves p (p + n₁) (p + n₂) (omega (arith, around-some form b₁)) (omega (arith, around-some form b₂)) (body-pieces ρ flags d) in
       record {
-        runs = body-runs ρ flags d (held-there old new w (around form b₁) held);
+        runs = body-runs ρ flags d (moves-there spans old new (around form b₁) w.held held);
         carried = rw (length-append old (around form b₁), length-append new (around form b₂)) (carried-both (carried-on n₁ refl refl w) m);
         ends = λ l. clash (endsInLineFeed (old ++ around form b₁)) l (ends-around old form b₁);
       }
@@ -159,7 +159,7 @@ module _ (ρ : Rules) (flags : List ℕ) (ps : List Piece) (old new rest : List 
         }
 
     withheld : any (encloses (length (before ++ (byte "\n" ∷ []))) (length ((before ++ (byte "\n" ∷ [])) ++ linesText cs₁))) (pieces ρ mid₁ flags) ≡ true
-    withheld = rw (sym is) (enclosed-there old new w (linesText cs₁) held)
+    withheld = rw (sym is) (moves-there encloses old new (linesText cs₁) w.enclosed held)
 
     led-length : (cs : List (List ℕ)) → length new + length (linesText cs) ≡ length before + length (ledText cs) + 1
     led-length cs = omega (arith, ap length is, length-append before (byte "\n" ∷ []), ap length (led-is cs), length-append (ledText cs) (byte "\n" ∷ []))
@@ -215,7 +215,7 @@ module _ (ρ : Rules) (flags : List ℕ) (ps : List Piece) where
 pub edition-runs : (ρ : Rules) → EditionRuns ρ
 edition-runs ρ flags one two r₁ r₂ d =
     let start : Carried (pieces ρ one flags) (pieces ρ (text inOne d.passages) flags) 0 0 =
-    rw (sym d.one-is) (record { held = λ c e. refl; enclosed = λ c e. refl }) in
+    rw (sym d.one-is) (record { held = record { stretch = λ c e. refl }; enclosed = record { stretch = λ c e. refl } }) in
     rw (d.one-is, d.two-is) (several ρ flags (pieces ρ one flags) d.passages [] [] d.private d.withheld (λ e. e) start)
 
 -- ---- one private piece is a case of several
