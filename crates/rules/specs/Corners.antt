@@ -5,9 +5,9 @@ use Rattle.lexical.specs.Name.{all, sameBytes}
 use Rattle.rules.specs.Reading.{crate, standard}
 use Rattle.rules.specs.Refusal.{refusal, tooLong, inlineRefusal, blockRefusal, bulletinRefusal}
 use Rattle.rules.specs.Scan.{InlineAnswer, foundInline, noInline, refusedInline, inlineScan, found, BlockAnswer, foundBlock, noBlock, refusedBlock, blockScan}
-use Rattle.rules.specs.Withhold.{shown, Shown, shows, refusedShown, written}
+use Rattle.rules.specs.Withhold.{outside, shown, Shown, shows, refusedShown, written}
 use Rattle.rules.specs.Output.{Wrote, wrote, refusedWrite}
-use Rattle.rules.specs.Spans.{foundSpans, Found, finds, refusedFind, find, areSpans, spansRefusal, besides, show, stretch, withhold}
+use Rattle.rules.specs.Spans.{foundSpans, Found, finds, refusedFind, find, areSpans, asPieces, spansRefusal, show, stretch, withhold}
 use Rattle.rules.specs.Filter.{filtered, filter}
 use Rattle.rules.specs.declared.Rules.{Rules}
 use Rattle.rules.specs.Rows.{sameInline, sameBlock, inlineRow, blockRow, bulletin, noFlags}
@@ -237,7 +237,7 @@ spans =
     ∷ sameFound (find crate bulletin noFlags 6) (finds 2)
     ∷ sameFound (find crate bulletin noFlags 5) (refusedFind 7)
     ∷ sameFound (find crate bulletin (0 ∷ []) 0) (refusedFind 2)
-    ∷ sameBytes (besides 0 bars bulletin) (bytes "door 9\n\n\nok")
+    ∷ sameBytes (outside 0 (asPieces bars) bulletin) (bytes "door 9\n\n\nok")
     ∷ sameWrote (show bulletin bars 11) (wrote 11)
     ∷ sameWrote (show bulletin bars 10) (refusedWrite 7)
     -- 12 comes before 7

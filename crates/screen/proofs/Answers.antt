@@ -7,9 +7,9 @@ use Rattle.std.specs.Result.{IsErrAnd}
 use lib.Seq.{take-append_seam}
 use Rattle.lexical.proofs.Cases.{split, clash}
 use Rattle.rules.specs.Refusal.{bulletinRefusal, refusalNumber}
-use Rattle.rules.specs.Withhold.{shown, count, shows, written}
+use Rattle.rules.specs.Withhold.{outside, shown, count, shows, written}
 use Rattle.rules.specs.Output.{Wrote, wrote, refusedWrite, writing}
-use Rattle.rules.specs.Spans.{foundSpans, finds, find, findRefusal, besides, show, showRefusal, withhold, withholdRefusal}
+use Rattle.rules.specs.Spans.{foundSpans, finds, find, findRefusal, asPieces, show, showRefusal, withhold, withholdRefusal}
 use Rattle.rules.specs.declared.Rules.{Rules}
 use Rattle.rules.specs.declared.refusal.Refusal.{Refusal}
 use Rattle.rules.specs.declared.refusal.Refusal.TheVariants.{NoRoom}
@@ -159,7 +159,7 @@ module _ (ρ : Rules) (text flags : List ℕ) where
           not-err e f h = clash true refl (sym (ap isWrote (h ∙ ap (λ s. show text s (length old)) (f ∙ front-is) ∙ shows-all)))
 
           pub shown-all : {front new : List ℕ} (n : ℕ) → front ≡ take (3 * pieces) listed → wrote n ≡ show text front (length old)
-              → new ≡ written (showRefusal text front (length old)) (besides 0 front text) old → Answered (Ok (record { length = n; pieces = pieces })) listed new
+              → new ≡ written (showRefusal text front (length old)) (outside 0 (asPieces front) text) old → Answered (Ok (record { length = n; pieces = pieces })) listed new
           unfolding withhold
           shown-all n f h w =
               let is = f ∙ front-is in
@@ -168,5 +168,5 @@ module _ (ρ : Rules) (text flags : List ℕ) where
               record {
                 answer = rw r (ap (λ k. shows k pieces) e ∙ ap (shows (length output)) c);
                 list = all-written refusal spans lent r l;
-                buffer = all-written refusal output old r (w ∙ ap (λ s. written (showRefusal text s (length old)) (besides 0 s text) old) is ∙ rw (not-refused, beside-found ρ text flags) refl);
+                buffer = all-written refusal output old r (w ∙ ap (λ s. written (showRefusal text s (length old)) (outside 0 (asPieces s) text) old) is ∙ rw (not-refused, beside-found ρ text flags) refl);
               }

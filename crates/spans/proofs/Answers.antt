@@ -3,9 +3,9 @@ use Rattle.lexical.proofs.Cases.{split}
 use Rattle.std.proofs.Common.{◌≡◌, refl, sym, ◌∙◌, ap, List, ℕ, ◌+◌, ◌-◌, ◌<◌, ◌≤◌, arith, eqb, length, take, drop, eqb-true, ne_eqb, Result, Ok, Err}
 use Rattle.std.specs.Result.{IsErrAnd}
 use Rattle.rules.specs.Refusal.{refusalNumber, outputRefusal}
-use Rattle.rules.specs.Withhold.{written}
+use Rattle.rules.specs.Withhold.{outside, written}
 use Rattle.rules.specs.Output.{outputOf, Writes}
-use Rattle.rules.specs.Spans.{besides, spansRefusal, showRefusal, show, part, partOf, stretchPart, stretch, partBytes}
+use Rattle.rules.specs.Spans.{asPieces, spansRefusal, showRefusal, show, part, partOf, stretchPart, stretch, partBytes}
 use Rattle.rules.specs.declared.refusal.Refusal.{Refusal}
 use Rattle.rules.specs.declared.refusal.Refusal.TheVariants.{NoRoom}
 use Rattle.rules.proofs.Refusals.{refusal-positive, raised}
@@ -15,7 +15,7 @@ use Rattle.runs.proofs.Spans.{shows-spans}
 -- ---- showing
 module _ (text spans old : List ℕ) where
   abbrev output : List ℕ
-  output = besides 0 spans text
+  output = outside 0 (asPieces spans) text
 
   pub record Answered (r : Result ℕ Refusal) (new : List ℕ) : Type 0 where
     pub answer : outputOf r ≡ show text spans (length old)
