@@ -2,8 +2,8 @@
 ghost use Rattle.std.specs.Prelude.{◌≡◌, length};
 ghost use Rattle.rules.specs.Reading.{crate as ofCrate, standard};
 ghost use Rattle.rules.specs.Withhold.{outside, written};
+ghost use Rattle.rules.specs.Output.{outputOf};
 ghost use Rattle.rules.specs.Spans.{foundSpans, find as findOf, findRefusal, asPieces, show as showOf, showRefusal, stretchPart};
-ghost use Rattle.screen.specs.Answer.{foundOf};
 ghost use Rattle.spans.specs.Answer.{partIs};
 ghost use Rattle.foringamo.specs.Result.{spansResult, writtenResult, partResult};
 
@@ -34,7 +34,7 @@ pub struct PartResult {
 
 // The answer of finding, as the interface gives it.
 impl From<Result<usize, Refusal>> for SpansResult {
-    ghost from_gives = { λ answer given. given ≡ spansResult (foundOf answer) };
+    ghost from_gives = { λ answer given. given ≡ spansResult (outputOf answer) };
 
     fn from(answer: Result<usize, Refusal>) -> SpansResult {
         match answer {

@@ -4,7 +4,7 @@ use Rattle.std.specs.Prelude.{ℕ, zero, suc, ◌+◌, ◌-◌, ◌*◌, ◌<◌
 use Rattle.rules.specs.Search.{choose}
 use Rattle.rules.specs.Refusal.{Check, check, refusal, tooLong, bulletinRefusal, outputRefusal}
 use Rattle.rules.specs.Withhold.{Which, inline, block, Piece, piece, pieces, outside, shown, count, Shown, shows, refusedShown}
-use Rattle.rules.specs.Output.{Wrote, wrote, refusedWrite, writing}
+use Rattle.rules.specs.Output.{Wrote, wrote, refusedWrite, answering, writing}
 use Rattle.rules.specs.declared.Rules.{Rules}
 
 -- ---- find
@@ -20,18 +20,13 @@ spansOf (p ∷ ps) = p.start ∷ (p.stop ∷ (sortOf p.which ∷ spansOf ps))
 unfoldable pub foundSpans : Rules → List ℕ → List ℕ → List ℕ
 foundSpans ρ text flags = spansOf (pieces ρ text flags)
 
--- the number of spans, or a refusal
-pub data Found : Type 0 where
-  finds : ℕ → Found
-  refusedFind : ℕ → Found
-
 -- 1, 2, 3, then 7; room is the length of the list
 unfoldable pub findRefusal : Rules → List ℕ → List ℕ → ℕ → ℕ
 findRefusal ρ text flags room = outputRefusal (bulletinRefusal text flags) room (foundSpans ρ text flags)
 
-unfoldable pub find : Rules → List ℕ → List ℕ → ℕ → Found
-find ρ text flags room =
-    choose (eqb (findRefusal ρ text flags room) 0) (λ _. finds (count ρ text flags)) (λ _. refusedFind (findRefusal ρ text flags room))
+-- the number of spans
+unfoldable pub find : Rules → List ℕ → List ℕ → ℕ → Wrote
+find ρ text flags room = answering (findRefusal ρ text flags room) (count ρ text flags)
 
 -- ---- show
 -- spans are whole; in order and none over another, the first from an index on; each stop is above its start, none past the end; of kind 0 or 1
@@ -128,10 +123,10 @@ abbrev pub ShowsSpans : Type 0
 ShowsSpans = (text spans : List ℕ) → spansRefusal text spans ≡ 0 → Shows text spans
 
 -- the answers of the two, one after the other
-abbrev pub thenShow : Found → Wrote → Shown
-thenShow (finds n) (wrote l) = shows l n
-thenShow (finds n) (refusedWrite r) = refusedShown r
-thenShow (refusedFind r) w = refusedShown r
+abbrev pub thenShow : Wrote → Wrote → Shown
+thenShow (wrote n) (wrote l) = shows l n
+thenShow (wrote n) (refusedWrite r) = refusedShown r
+thenShow (refusedWrite r) w = refusedShown r
 
 -- the spans found stand in order, disjoint, each with a byte, three numbers for each piece and for no byte more than three; showing beside them is withholding; and a
 -- list that has room for them changes no answer

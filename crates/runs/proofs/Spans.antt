@@ -7,8 +7,8 @@ use Rattle.lexical.proofs.Cases.{split, clash}
 use Rattle.rules.specs.Search.{choose}
 use Rattle.rules.specs.Refusal.{refusal, tooLong, bulletinRefusal, outputRefusal}
 use Rattle.rules.specs.Withhold.{Which, inline, block, Piece, pieces, holds, isWithheld, outside, shown, count, shows, refusedShown}
-use Rattle.rules.specs.Spans.{sortOf, spansOf, foundSpans, finds, find, findRefusal, areSpans, asPieces, spansRefusal, showRefusal, show, part, partOf, stretchPart, partBytes, stretch, withholdRefusal, withhold, spanBytes, joined, ShowsSpans, thenShow, FindThenShow}
-use Rattle.rules.specs.Output.{wrote, refusedWrite, writing}
+use Rattle.rules.specs.Spans.{sortOf, spansOf, foundSpans, find, findRefusal, areSpans, asPieces, spansRefusal, showRefusal, show, part, partOf, stretchPart, partBytes, stretch, withholdRefusal, withhold, spanBytes, joined, ShowsSpans, thenShow, FindThenShow}
+use Rattle.rules.specs.Output.{wrote, refusedWrite, answering}
 use Rattle.rules.specs.declared.Rules.{Rules}
 use Rattle.rules.proofs.Refusals.{not-met, within-limit, output-first, output-passed, output-reads}
 use Rattle.runs.proofs.Ordered.{Ordered, none, one-more, bounds, fewer, outside-next, outside-none, pieces-ordered}
@@ -151,7 +151,7 @@ shows-spans text spans h =
 
 -- ---- the spans found
 -- the answer of showing after finding, whether it is refused or not
-both-ways : (b : Bool) (n l r : ℕ) → choose b (λ _. shows l n) (λ _. refusedShown r) ≡ thenShow (finds n) (choose b (λ _. wrote l) (λ _. refusedWrite r))
+both-ways : (b : Bool) (n l r : ℕ) → choose b (λ _. shows l n) (λ _. refusedShown r) ≡ thenShow (wrote n) (choose b (λ _. wrote l) (λ _. refusedWrite r))
 both-ways true n l r = refl
 both-ways false n l r = refl
 
@@ -196,7 +196,7 @@ module _ (ρ : Rules) (text flags : List ℕ) where
       output-first (findRefusal ρ text flags list) room (shown ρ text flags) (λ s. clash (eqb (findRefusal ρ text flags list) 0) (ap (λ t. eqb t 0) s) h)
 
   same-answer : (list room : ℕ) → withhold ρ text flags list room ≡ thenShow (find ρ text flags list) (show text (foundSpans ρ text flags) room)
-  unfolding withhold find show writing
+  unfolding withhold find show answering
   same-answer list room =
       split (eqb (findRefusal ρ text flags list) 0)
       (λ h. rw (h, same-refusal list room (eqb-true _ 0 h), beside-found) (both-ways (eqb (withholdRefusal ρ text flags list room) 0) _ _ _))
