@@ -6,7 +6,7 @@ use Rattle.rules.specs.Scan.{InlineAnswer, foundInline, noInline, refusedInline,
 use Rattle.rules.specs.Trace.{Record, eventRecord, lastRecord, refusedRecord}
 use Rattle.rules.specs.Withhold.{Shown, shows, refusedShown}
 use Rattle.rules.specs.Output.{Wrote, wrote, refusedWrite}
-use Rattle.rules.specs.Spans.{Found, finds, refusedFind, Part}
+use Rattle.rules.specs.Spans.{Part}
 use Rattle.foringamo.specs.declared.block.BlockResult.{BlockResult}
 use Rattle.foringamo.specs.declared.inline.InlineResult.{InlineResult}
 use Rattle.foringamo.specs.declared.record.RecordResult.{RecordResult}
@@ -43,9 +43,9 @@ abbrev pub writtenResult : Wrote → WrittenResult
 writtenResult (wrote n) = record { refusal = 0; length = n }
 writtenResult (refusedWrite n) = record { refusal = n; length = 0 }
 
-abbrev pub spansResult : Found → SpansResult
-spansResult (finds count) = record { refusal = 0; count = count }
-spansResult (refusedFind n) = record { refusal = n; count = 0 }
+abbrev pub spansResult : Wrote → SpansResult
+spansResult (wrote count) = record { refusal = 0; count = count }
+spansResult (refusedWrite n) = record { refusal = n; count = 0 }
 
 abbrev pub partResult : Part → PartResult
 partResult p = record { start = p.start; length = p.size }

@@ -1,9 +1,9 @@
 // Finding first, and showing afterwards.
 ghost use Rattle.std.specs.Prelude.{◌≡◌, length};
 ghost use Rattle.rules.specs.Reading.{crate as ofCrate, standard};
-ghost use Rattle.rules.specs.Withhold.{written};
-ghost use Rattle.rules.specs.Spans.{foundSpans, find as findOf, findRefusal, besides, show as showOf, showRefusal, stretchPart};
-ghost use Rattle.screen.specs.Answer.{foundOf};
+ghost use Rattle.rules.specs.Withhold.{outside, written};
+ghost use Rattle.rules.specs.Output.{outputOf};
+ghost use Rattle.rules.specs.Spans.{foundSpans, find as findOf, findRefusal, asPieces, show as showOf, showRefusal, stretchPart};
 ghost use Rattle.spans.specs.Answer.{partIs};
 ghost use Rattle.foringamo.specs.Result.{spansResult, writtenResult, partResult};
 
@@ -34,7 +34,7 @@ pub struct PartResult {
 
 // The answer of finding, as the interface gives it.
 impl From<Result<usize, Refusal>> for SpansResult {
-    ghost from_gives = { λ answer given. given ≡ spansResult (foundOf answer) };
+    ghost from_gives = { λ answer given. given ≡ spansResult (outputOf answer) };
 
     fn from(answer: Result<usize, Refusal>) -> SpansResult {
         match answer {
@@ -84,7 +84,7 @@ pub extern "C" fn foringamo_standard_find(
 #[unsafe(no_mangle)]
 pub extern "C" fn foringamo_show(bulletin: &[u8], spans: &[u32], out: &mut [u8]) -> WrittenResult
     ensures answer { result ≡ writtenResult (showOf bulletin.now spans.now (length out.old)) }
-    ensures buffer { out.new ≡ written (showRefusal bulletin.now spans.now (length out.old)) (besides 0 spans.now bulletin.now) out.old }
+    ensures buffer { out.new ≡ written (showRefusal bulletin.now spans.now (length out.old)) (outside 0 (asPieces spans.now) bulletin.now) out.old }
 {
     WrittenResult::from(show(bulletin, spans, out))
 }

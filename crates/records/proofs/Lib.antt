@@ -5,4 +5,4 @@ pub mod Walks
 pub mod Conversion
 pub mod Stores
 pub mod Turns
-pub mod Outputs
+pub mod Refusals

@@ -5,9 +5,9 @@ use Rattle.lexical.specs.Name.{all, sameBytes}
 use Rattle.rules.specs.Reading.{crate, standard}
 use Rattle.rules.specs.Refusal.{refusal, tooLong, inlineRefusal, blockRefusal, bulletinRefusal}
 use Rattle.rules.specs.Scan.{InlineAnswer, foundInline, noInline, refusedInline, inlineScan, found, BlockAnswer, foundBlock, noBlock, refusedBlock, blockScan}
-use Rattle.rules.specs.Withhold.{shown, Shown, shows, refusedShown, written}
+use Rattle.rules.specs.Withhold.{outside, shown, Shown, shows, refusedShown, written}
 use Rattle.rules.specs.Output.{Wrote, wrote, refusedWrite}
-use Rattle.rules.specs.Spans.{foundSpans, Found, finds, refusedFind, find, areSpans, spansRefusal, besides, show, stretch, withhold}
+use Rattle.rules.specs.Spans.{foundSpans, find, areSpans, asPieces, spansRefusal, show, stretch, withhold}
 use Rattle.rules.specs.Filter.{filtered, filter}
 use Rattle.rules.specs.declared.Rules.{Rules}
 use Rattle.rules.specs.Rows.{sameInline, sameBlock, inlineRow, blockRow, bulletin, noFlags}
@@ -220,24 +220,17 @@ filteredBackslashes =
     ∷ filterRow (bytes "<div>\\<xmp>") (0 ∷ []) (bytes "<div>\\&lt;xmp>")
     ∷ []
 
--- SCOPE, Find first, show afterwards: two answers of finding are the same
-abbrev pub sameFound : Found → Found → Bool
-sameFound (finds n) (finds m) = eqb n m
-sameFound (finds n) (refusedFind k) = false
-sameFound (refusedFind k) (finds m) = false
-sameFound (refusedFind k) (refusedFind j) = eqb k j
-
--- the spans of the added screen
+-- SCOPE, Find first, show afterwards: the spans of the added screen
 abbrev pub bars : List ℕ
 bars = 5 ∷ 15 ∷ 0 ∷ 17 ∷ 26 ∷ 1 ∷ []
 
 unfoldable pub spans : List Bool
 spans =
     sameBytes (foundSpans crate bulletin noFlags) bars
-    ∷ sameFound (find crate bulletin noFlags 6) (finds 2)
-    ∷ sameFound (find crate bulletin noFlags 5) (refusedFind 7)
-    ∷ sameFound (find crate bulletin (0 ∷ []) 0) (refusedFind 2)
-    ∷ sameBytes (besides 0 bars bulletin) (bytes "door 9\n\n\nok")
+    ∷ sameWrote (find crate bulletin noFlags 6) (wrote 2)
+    ∷ sameWrote (find crate bulletin noFlags 5) (refusedWrite 7)
+    ∷ sameWrote (find crate bulletin (0 ∷ []) 0) (refusedWrite 2)
+    ∷ sameBytes (outside 0 (asPieces bars) bulletin) (bytes "door 9\n\n\nok")
     ∷ sameWrote (show bulletin bars 11) (wrote 11)
     ∷ sameWrote (show bulletin bars 10) (refusedWrite 7)
     -- 12 comes before 7

@@ -1,10 +1,10 @@
 -- SCOPE, Find first, show afterwards: the spans of what is withheld, what is shown beside given spans, and withholding as the two in turn. A list of spans has three
 -- numbers for each: start, stop, and 0 for inline or 1 for block.
-use Rattle.std.specs.Prelude.{ℕ, zero, suc, ◌+◌, ◌-◌, ◌*◌, ◌<◌, ◌≤◌, ◌≡◌, Bool, true, false, ◌&&◌, ◌||◌, not, List, [], ◌∷◌, ◌++◌, eqb, leb, ltb, length, take, drop}
+use Rattle.std.specs.Prelude.{ℕ, zero, suc, ◌+◌, ◌-◌, ◌*◌, ◌<◌, ◌≤◌, ◌≡◌, Bool, true, false, ◌&&◌, not, List, [], ◌∷◌, ◌++◌, eqb, leb, ltb, length, take, drop}
 use Rattle.rules.specs.Search.{choose}
 use Rattle.rules.specs.Refusal.{Check, check, refusal, tooLong, bulletinRefusal, outputRefusal}
-use Rattle.rules.specs.Withhold.{Which, inline, block, Piece, pieces, shown, count, Shown, shows, refusedShown}
-use Rattle.rules.specs.Output.{Wrote, wrote, refusedWrite, writing}
+use Rattle.rules.specs.Withhold.{Which, inline, block, Piece, piece, pieces, outside, shown, count, Shown, shows, refusedShown}
+use Rattle.rules.specs.Output.{Wrote, wrote, refusedWrite, answering, writing}
 use Rattle.rules.specs.declared.Rules.{Rules}
 
 -- ---- find
@@ -20,18 +20,13 @@ spansOf (p ∷ ps) = p.start ∷ (p.stop ∷ (sortOf p.which ∷ spansOf ps))
 unfoldable pub foundSpans : Rules → List ℕ → List ℕ → List ℕ
 foundSpans ρ text flags = spansOf (pieces ρ text flags)
 
--- the number of spans, or a refusal
-pub data Found : Type 0 where
-  finds : ℕ → Found
-  refusedFind : ℕ → Found
-
 -- 1, 2, 3, then 7; room is the length of the list
 unfoldable pub findRefusal : Rules → List ℕ → List ℕ → ℕ → ℕ
 findRefusal ρ text flags room = outputRefusal (bulletinRefusal text flags) room (foundSpans ρ text flags)
 
-unfoldable pub find : Rules → List ℕ → List ℕ → ℕ → Found
-find ρ text flags room =
-    choose (eqb (findRefusal ρ text flags room) 0) (λ _. finds (count ρ text flags)) (λ _. refusedFind (findRefusal ρ text flags room))
+-- the number of spans
+unfoldable pub find : Rules → List ℕ → List ℕ → ℕ → Wrote
+find ρ text flags room = answering (findRefusal ρ text flags room) (count ρ text flags)
 
 -- ---- show
 -- spans are whole; in order and none over another, the first from an index on; each stop is above its start, none past the end; of kind 0 or 1
@@ -41,17 +36,12 @@ areSpans from end (a ∷ []) = false
 areSpans from end (a ∷ b ∷ []) = false
 areSpans from end (a ∷ b ∷ k ∷ s) = (leb from a && ltb a b) && ((leb b end && leb k 1) && areSpans b end s)
 
--- a span holds the byte at i
-unfoldable pub isSpanned : ℕ → List ℕ → Bool
-isSpanned i [] = false
-isSpanned i (a ∷ []) = false
-isSpanned i (a ∷ b ∷ []) = false
-isSpanned i (a ∷ b ∷ k ∷ s) = (leb a i && ltb i b) || isSpanned i s
-
--- the bytes of s, which begins at i, outside the spans
-unfoldable pub besides : ℕ → List ℕ → List ℕ → List ℕ
-besides i spans [] = []
-besides i spans (x ∷ s) = choose (isSpanned i spans) (λ _. besides (suc i) spans s) (λ _. x ∷ besides (suc i) spans s)
+-- given spans, read as pieces: what stands outside them asks for no kind
+abbrev pub asPieces : List ℕ → List Piece
+asPieces [] = []
+asPieces (a ∷ []) = []
+asPieces (a ∷ b ∷ []) = []
+asPieces (a ∷ b ∷ k ∷ s) = piece a b inline ∷ asPieces s
 
 -- 12
 abbrev pub wrongSpans : List ℕ → List ℕ → Check
@@ -63,10 +53,10 @@ spansRefusal text spans = refusal (tooLong text ∷ wrongSpans text spans ∷ []
 
 -- 1, 12, then 7; room is the length of the output buffer
 unfoldable pub showRefusal : List ℕ → List ℕ → ℕ → ℕ
-showRefusal text spans room = outputRefusal (spansRefusal text spans) room (besides 0 spans text)
+showRefusal text spans room = outputRefusal (spansRefusal text spans) room (outside 0 (asPieces spans) text)
 
 unfoldable pub show : List ℕ → List ℕ → ℕ → Wrote
-show text spans room = writing (showRefusal text spans room) (besides 0 spans text)
+show text spans room = writing (showRefusal text spans room) (outside 0 (asPieces spans) text)
 
 -- ---- stretches
 -- a part of a bulletin: its first index and its length
@@ -122,10 +112,10 @@ joined text spans k (suc n) = stretch text spans k ++ joined text spans (suc k) 
 -- of all spans that are not refused: shown bytes and span bytes together are the bulletin's; the stretches, one more than the spans, are what is shown, each a
 -- part of the bulletin, and any other is empty
 pub record Shows (text spans : List ℕ) : Type 0 where
-  pub bytes-sum : length (besides 0 spans text) + spanBytes spans ≡ length text
+  pub bytes-sum : length (outside 0 (asPieces spans) text) + spanBytes spans ≡ length text
   pub number : ℕ
   pub whole : length spans ≡ 3 * number
-  pub stretches : joined text spans 0 (suc number) ≡ besides 0 spans text
+  pub stretches : joined text spans 0 (suc number) ≡ outside 0 (asPieces spans) text
   pub within : (n : ℕ) → (stretchPart text spans n).start + (stretchPart text spans n).size ≤ length text
   pub other : (n : ℕ) → number < n → stretchPart text spans n ≡ part 0 0
 
@@ -133,10 +123,10 @@ abbrev pub ShowsSpans : Type 0
 ShowsSpans = (text spans : List ℕ) → spansRefusal text spans ≡ 0 → Shows text spans
 
 -- the answers of the two, one after the other
-abbrev pub thenShow : Found → Wrote → Shown
-thenShow (finds n) (wrote l) = shows l n
-thenShow (finds n) (refusedWrite r) = refusedShown r
-thenShow (refusedFind r) w = refusedShown r
+abbrev pub thenShow : Wrote → Wrote → Shown
+thenShow (wrote n) (wrote l) = shows l n
+thenShow (wrote n) (refusedWrite r) = refusedShown r
+thenShow (refusedWrite r) w = refusedShown r
 
 -- the spans found stand in order, disjoint, each with a byte, three numbers for each piece and for no byte more than three; showing beside them is withholding; and a
 -- list that has room for them changes no answer
@@ -144,7 +134,7 @@ pub record InTurn (ρ : Rules) (text flags : List ℕ) : Type 0 where
   pub ordered : areSpans 0 (length text) (foundSpans ρ text flags) ≡ true
   pub number : length (foundSpans ρ text flags) ≡ 3 * count ρ text flags
   pub most : length (foundSpans ρ text flags) ≤ 3 * length text
-  pub same-bytes : besides 0 (foundSpans ρ text flags) text ≡ shown ρ text flags
+  pub same-bytes : outside 0 (asPieces (foundSpans ρ text flags)) text ≡ shown ρ text flags
   pub same-answer : (list room : ℕ) → withhold ρ text flags list room ≡ thenShow (find ρ text flags list) (show text (foundSpans ρ text flags) room)
   pub list-enough : (list room : ℕ) → length (foundSpans ρ text flags) ≤ list → withholdRefusal ρ text flags list room ≡ outputRefusal (bulletinRefusal text flags) room (shown ρ text flags)
 

@@ -6,23 +6,24 @@ use Rattle.lexical.specs.Text.{limit}
 use Rattle.lexical.proofs.Cases.{split, clash}
 use Rattle.rules.specs.Search.{choose}
 use Rattle.rules.specs.Refusal.{refusal, tooLong, bulletinRefusal, outputRefusal}
-use Rattle.rules.specs.Withhold.{Which, inline, block, Piece, piece, pieces, isWithheld, outside, shown, count, shows, refusedShown}
-use Rattle.rules.specs.Spans.{sortOf, spansOf, foundSpans, finds, find, findRefusal, areSpans, isSpanned, besides, spansRefusal, showRefusal, show, part, partOf, stretchPart, partBytes, stretch, withholdRefusal, withhold, spanBytes, joined, ShowsSpans, thenShow, FindThenShow}
-use Rattle.rules.specs.Output.{wrote, refusedWrite, writing}
+use Rattle.rules.specs.Withhold.{Which, inline, block, Piece, pieces, holds, isWithheld, outside, shown, count, shows, refusedShown}
+use Rattle.rules.specs.Spans.{sortOf, spansOf, foundSpans, find, findRefusal, areSpans, asPieces, spansRefusal, showRefusal, show, part, partOf, stretchPart, partBytes, stretch, withholdRefusal, withhold, spanBytes, joined, ShowsSpans, thenShow, FindThenShow}
+use Rattle.rules.specs.Output.{wrote, refusedWrite, answering}
 use Rattle.rules.specs.declared.Rules.{Rules}
 use Rattle.rules.proofs.Refusals.{not-met, within-limit, output-first, output-passed, output-reads}
 use Rattle.runs.proofs.Ordered.{Ordered, none, one-more, bounds, fewer, outside-next, outside-none, pieces-ordered}
 
 -- ---- the spans of pieces
-spanned-is : (i : ℕ) (ps : List Piece) → isSpanned i (spansOf ps) ≡ isWithheld i ps
-unfolding isSpanned spansOf isWithheld
-spanned-is i [] = refl
-spanned-is i (p ∷ ps) = ap (λ (b : Bool). (leb p.start i && ltb i p.stop) || b) (spanned-is i ps)
+-- pieces read back from their spans hold the same bytes
+held-back : (i : ℕ) (ps : List Piece) → isWithheld i (asPieces (spansOf ps)) ≡ isWithheld i ps
+unfolding spansOf isWithheld
+held-back i [] = refl
+held-back i (p ∷ ps) = ap (λ (b : Bool). holds i p || b) (held-back i ps)
 
-besides-is : (i : ℕ) (ps : List Piece) (s : List ℕ) → besides i (spansOf ps) s ≡ outside i ps s
-unfolding besides outside
-besides-is i ps [] = refl
-besides-is i ps (x ∷ s) = rw (spanned-is i ps, besides-is (suc i) ps s)
+outside-back : (i : ℕ) (ps : List Piece) (s : List ℕ) → outside i (asPieces (spansOf ps)) s ≡ outside i ps s
+unfolding outside
+outside-back i ps [] = refl
+outside-back i ps (x ∷ s) = rw (held-back i ps, outside-back (suc i) ps s)
 
 sort-one : (w : Which) → leb (sortOf w) 1 ≡ true
 sort-one inline = refl
@@ -39,26 +40,7 @@ unfolding spansOf
 spans-length [] = refl
 spans-length (p ∷ ps) = omega (arith, spans-length ps)
 
--- ---- any spans, as pieces
-abbrev pub asPieces : List ℕ → List Piece
-asPieces [] = []
-asPieces (a ∷ []) = []
-asPieces (a ∷ b ∷ []) = []
-asPieces (a ∷ b ∷ k ∷ s) = piece a b inline ∷ asPieces s
-
-spanned-as : (i : ℕ) (s : List ℕ) → isSpanned i s ≡ isWithheld i (asPieces s)
-unfolding isSpanned isWithheld
-spanned-as i [] = refl
-spanned-as i (a ∷ []) = refl
-spanned-as i (a ∷ b ∷ []) = refl
-spanned-as i (a ∷ b ∷ k ∷ s) = ap (λ (t : Bool). (leb a i && ltb i b) || t) (spanned-as i s)
-
-pub besides-as : (i : ℕ) (spans s : List ℕ) → besides i spans s ≡ outside i (asPieces spans) s
-unfolding besides outside
-besides-as i spans [] = refl
-besides-as i spans (x ∷ s) = rw (spanned-as i spans, besides-as (suc i) spans s)
-
--- spans from an index on, that are not refused
+-- ---- spans from an index on, that are not refused
 pub data Spans : ℕ → ℕ → List ℕ → Type 0 where
   no-more : {from end : ℕ} → from ≤ end → Spans from end []
   span : {from end : ℕ} (a b k : ℕ) {s : List ℕ} → from ≤ a → a < b → b ≤ end → Spans b end s → Spans from end (a ∷ b ∷ k ∷ s)
@@ -81,32 +63,25 @@ as-ordered (span a b k h l m w) = one-more h l (as-ordered w)
 
 module _ (text : List ℕ) where
   -- the law of showing, from span to span
-  pub besides-next : {from a b k : ℕ} {s : List ℕ} → Spans from (length text) (a ∷ b ∷ k ∷ s)
-      → besides from (a ∷ b ∷ k ∷ s) (drop from text) ≡ take (a - from) (drop from text) ++ besides b s (drop b text)
-  besides-next {from} {a} {b} {k} {s} w =
-      let h : length text ≤ length text = omega arith in
-      besides-as from (a ∷ b ∷ k ∷ s) (drop from text)
-      ∙ outside-next text from (length text) (piece a b inline) (asPieces s) (as-ordered w) h
-      ∙ ap (λ (t : List ℕ). take (a - from) (drop from text) ++ t) (sym (besides-as b s (drop b text)))
-
-  pub besides-none : (from : ℕ) → besides from [] (drop from text) ≡ drop from text
-  besides-none from = besides-as from [] (drop from text) ∙ outside-none from (drop from text)
+  beside-next : {from a b k : ℕ} {s : List ℕ} → Spans from (length text) (a ∷ b ∷ k ∷ s)
+      → outside from (asPieces (a ∷ b ∷ k ∷ s)) (drop from text) ≡ take (a - from) (drop from text) ++ outside b (asPieces s) (drop b text)
+  beside-next w = outside-next text _ (length text) _ _ (as-ordered w) (omega arith)
 
   -- shown bytes and span bytes
   pub part-length : (from n : ℕ) → from + n ≤ length text → length (take n (drop from text)) ≡ n
   part-length from n l = length-take-le n (drop from text) (omega (arith, length-drop from text, l))
 
-  pub sum : {from : ℕ} {s : List ℕ} → Spans from (length text) s → length (besides from s (drop from text)) + spanBytes s + from ≡ length text
+  pub sum : {from : ℕ} {s : List ℕ} → Spans from (length text) s → length (outside from (asPieces s) (drop from text)) + spanBytes s + from ≡ length text
   unfolding spanBytes
-  sum {from} (no-more l) = omega (arith, l, ap length (besides-none from), length-drop from text)
+  sum {from} (no-more l) = omega (arith, l, ap length (outside-none from (drop from text)), length-drop from text)
   sum {from} (span a b k {s} h l m w) =
       let i = sum w in
-      let e = ap length (besides-next (span a b k h l m w)) ∙ length-append (take (a - from) (drop from text)) (besides b s (drop b text)) in
+      let e = ap length (beside-next (span a b k h l m w)) ∙ length-append (take (a - from) (drop from text)) (outside b (asPieces s) (drop b text)) in
       let p = part-length from (a - from) (omega (arith, h, l, m)) in
       omega (arith, i, e, p, h, l)
 
-  pub besides-most : (spans : List ℕ) → areSpans 0 (length text) spans ≡ true → length (besides 0 spans text) ≤ length text
-  besides-most spans h = omega (arith, sum (are-spans 0 (length text) spans (omega arith) h))
+  pub beside-most : (spans : List ℕ) → areSpans 0 (length text) spans ≡ true → length (outside 0 (asPieces spans) text) ≤ length text
+  beside-most spans h = omega (arith, sum (are-spans 0 (length text) spans (omega arith) h))
 
   -- ---- stretches
   abbrev size : ℕ
@@ -121,13 +96,13 @@ module _ (text : List ℕ) where
   parts-shift from a b k s i zero = refl
   parts-shift from a b k s i (suc n) = ap (λ (t : List ℕ). partBytes text (partOf i b size s) ++ t) (parts-shift from a b k s (suc i) n)
 
-  parts-all : {from : ℕ} {s : List ℕ} → Spans from size s → partsFrom from s 0 (suc (length (asPieces s))) ≡ besides from s (drop from text)
+  parts-all : {from : ℕ} {s : List ℕ} → Spans from size s → partsFrom from s 0 (suc (length (asPieces s))) ≡ outside from (asPieces s) (drop from text)
   unfolding partOf
   parts-all {from} (no-more l) =
-      append-nil (take (size - from) (drop from text)) ∙ take_all (size - from) (drop from text) (omega (arith, length-drop from text)) ∙ sym (besides-none from)
+      append-nil (take (size - from) (drop from text)) ∙ take_all (size - from) (drop from text) (omega (arith, length-drop from text)) ∙ sym (outside-none from (drop from text))
   parts-all {from} (span a b k {s} h l m w) =
       ap (λ (t : List ℕ). take (a - from) (drop from text) ++ t) (parts-shift from a b k s 0 (suc (length (asPieces s))) ∙ parts-all w)
-      ∙ sym (besides-next (span a b k h l m w))
+      ∙ sym (beside-next (span a b k h l m w))
 
   pub part-within : {from : ℕ} {s : List ℕ} → Spans from size s → (n : ℕ) → (partOf n from size s).start + (partOf n from size s).size ≤ size
   unfolding partOf
@@ -176,7 +151,7 @@ shows-spans text spans h =
 
 -- ---- the spans found
 -- the answer of showing after finding, whether it is refused or not
-both-ways : (b : Bool) (n l r : ℕ) → choose b (λ _. shows l n) (λ _. refusedShown r) ≡ thenShow (finds n) (choose b (λ _. wrote l) (λ _. refusedWrite r))
+both-ways : (b : Bool) (n l r : ℕ) → choose b (λ _. shows l n) (λ _. refusedShown r) ≡ thenShow (wrote n) (choose b (λ _. wrote l) (λ _. refusedWrite r))
 both-ways true n l r = refl
 both-ways false n l r = refl
 
@@ -185,13 +160,13 @@ module _ (ρ : Rules) (text flags : List ℕ) where
   unfolding foundSpans
   found-ordered = spans-ordered (pieces-ordered ρ text flags)
 
-  pub beside-found : besides 0 (foundSpans ρ text flags) text ≡ shown ρ text flags
+  pub beside-found : outside 0 (asPieces (foundSpans ρ text flags)) text ≡ shown ρ text flags
   unfolding foundSpans shown
-  beside-found = besides-is 0 (pieces ρ text flags) text
+  beside-found = outside-back 0 (pieces ρ text flags) text
 
   -- no more bytes are shown than there are
   pub shown-most : length (shown ρ text flags) ≤ length text
-  shown-most = omega (arith, besides-most text (foundSpans ρ text flags) found-ordered, ap length beside-found)
+  shown-most = omega (arith, beside-most text (foundSpans ρ text flags) found-ordered, ap length beside-found)
 
   pub found-length : length (foundSpans ρ text flags) ≡ 3 * count ρ text flags
   unfolding foundSpans count
@@ -221,7 +196,7 @@ module _ (ρ : Rules) (text flags : List ℕ) where
       output-first (findRefusal ρ text flags list) room (shown ρ text flags) (λ s. clash (eqb (findRefusal ρ text flags list) 0) (ap (λ t. eqb t 0) s) h)
 
   same-answer : (list room : ℕ) → withhold ρ text flags list room ≡ thenShow (find ρ text flags list) (show text (foundSpans ρ text flags) room)
-  unfolding withhold find show writing
+  unfolding withhold find show answering
   same-answer list room =
       split (eqb (findRefusal ρ text flags list) 0)
       (λ h. rw (h, same-refusal list room (eqb-true _ 0 h), beside-found) (both-ways (eqb (withholdRefusal ρ text flags list room) 0) _ _ _))

@@ -1,21 +1,21 @@
--- Laws of the answers: a refusal of what is read, no room in the list or in the buffer, or what is found and shown. Showing beside what was found is not refused, since
--- there is room.
-use Rattle.std.proofs.Common.{◌≡◌, refl, sym, ◌∙◌, ap, Bool, true, false, ◌&&◌, List, ℕ, ◌*◌, ◌≤◌, arith, leb, length, take, drop, length-append, ne_eqb, le-leb, leb-true, leb-false, Result, Ok, Err}
+-- Laws of the room for all spans, and of the answer of withholding: a refusal of what is read, no room in the list or in the buffer, or what is found and shown. Showing
+-- beside what was found is not refused, since there is room.
+use Rattle.std.proofs.Common.{◌≡◌, refl, sym, ◌∙◌, ap, Bool, true, false, ◌&&◌, List, ℕ, ◌*◌, ◌<◌, ◌≤◌, arith, leb, length, take, drop, length-append, ne_eqb, le-leb, leb-true, leb-false, Result, Ok, Err}
 use Rattle.std.proofs.Math.Bool.{and-true}
 use Rattle.std.proofs.lemmas.Bool.{and_parts}
 use Rattle.std.specs.Result.{IsErrAnd}
 use lib.Seq.{take-append_seam}
 use Rattle.lexical.proofs.Cases.{split, clash}
 use Rattle.rules.specs.Refusal.{bulletinRefusal, refusalNumber}
-use Rattle.rules.specs.Withhold.{shown, count, shows, written}
-use Rattle.rules.specs.Output.{Wrote, wrote, refusedWrite, writing}
-use Rattle.rules.specs.Spans.{foundSpans, finds, find, findRefusal, besides, show, showRefusal, withhold, withholdRefusal}
+use Rattle.rules.specs.Withhold.{outside, shown, count, shows, written}
+use Rattle.rules.specs.Output.{Wrote, wrote, refusedWrite, answering}
+use Rattle.rules.specs.Spans.{foundSpans, findRefusal, asPieces, show, showRefusal, withhold, withholdRefusal}
 use Rattle.rules.specs.declared.Rules.{Rules}
 use Rattle.rules.specs.declared.refusal.Refusal.{Refusal}
 use Rattle.rules.specs.declared.refusal.Refusal.TheVariants.{NoRoom}
 use Rattle.rules.proofs.Refusals.{refusal-positive, output-first, output-short, output-fits, raised}
 use Rattle.runs.proofs.Spans.{beside-found, found-length, found-most, shown-most, same-refusal}
-use Rattle.screen.specs.Answer.{foundOf, shownOf}
+use Rattle.screen.specs.Answer.{shownOf}
 use Rattle.screen.specs.declared.withhold.Withheld.{Withheld}
 
 -- of an answer that writes
@@ -75,35 +75,16 @@ module _ (ρ : Rules) (text flags : List ℕ) where
           let both = and_parts (leb (length spans) list) (leb (length output) room) h in
           rw (find-fits both.0) (output-fits room output (leb-true (length output) room both.1))
 
-  -- ---- finding, into a list
-  module _ (old : List ℕ) where
-    pub record FindAnswered (r : Result ℕ Refusal) (new : List ℕ) : Type 0 where
-      pub answer : foundOf r ≡ find ρ text flags (length old)
-      pub list : new ≡ written (findRefusal ρ text flags (length old)) spans old
+  -- ---- room for all spans: what is shown fits in as many bytes as there are
+  module _ (list : ℕ) {b : Bool} (h : b ≡ (leb (length spans) list && leb (length output) (length text))) where
+    list-alone : b ≡ leb (length spans) list
+    list-alone = h ∙ ap (λ t. leb (length spans) list && t) (le-leb (length output) (length text) (shown-most ρ text flags)) ∙ and-true (leb (length spans) list)
 
-    find-refused : (r : Refusal) → findRefusal ρ text flags (length old) ≡ refusalNumber r → FindAnswered (Err r) old
-    unfolding find
-    find-refused r e = record { answer = rw (e, ne_eqb (refusalNumber r) 0 (refusal-positive r)) refl; list = unwritten _ spans old r e }
+    pub list-short : b ≡ false → list < length spans
+    list-short f = leb-false (length spans) list (sym list-alone ∙ f)
 
-    -- what was read is refused, and the answer passes that on
-    pub found-refused-reads : (r : Result ℕ Refusal) (e : Refusal) → IsErrAnd r (λ x. x ≡ e) → refusalNumber e ≡ bulletinRefusal text flags → FindAnswered r old
-    found-refused-reads r e h k = rw (raised r h) (find-refused e (find-reads (length old) 0 e k))
-
-    module _ (z : 0 ≡ bulletinRefusal text flags) where
-      -- what is shown fits in as many bytes as there are
-      list-alone : {b : Bool} → b ≡ (leb (length spans) (length old) && leb (length output) (length text)) → b ≡ leb (length spans) (length old)
-      list-alone h = h ∙ ap (λ t. leb (length spans) (length old) && t) (le-leb (length output) (length text) (shown-most ρ text flags)) ∙ and-true (leb (length spans) (length old))
-
-      pub found-no-room : {b : Bool} → b ≡ (leb (length spans) (length old) && leb (length output) (length text)) → b ≡ false → FindAnswered (Err NoRoom) old
-      found-no-room h f = find-refused NoRoom (find-short (length old) 0 z (sym (list-alone h) ∙ f))
-
-      pub found-room : {b : Bool} → b ≡ (leb (length spans) (length old) && leb (length output) (length text)) → b ≡ true → length spans ≤ length old
-      found-room h t = leb-true (length spans) (length old) (sym (list-alone h) ∙ t)
-
-      pub found-all : length spans ≤ length old → (n : ℕ) {new : List ℕ} → n ≡ count ρ text flags → new ≡ written 0 spans old → FindAnswered (Ok n) new
-      unfolding find
-      found-all l n e w =
-          let f = find-fits (length old) 0 z (le-leb (length spans) (length old) l) in record { answer = rw f (ap finds e); list = all-written _ spans old f w }
+    pub list-fits : b ≡ true → length spans ≤ list
+    list-fits t = leb-true (length spans) list (sym list-alone ∙ t)
 
   -- ---- withholding, into a list and a buffer
   module _ (lent old : List ℕ) where
@@ -151,7 +132,7 @@ module _ (ρ : Rules) (text flags : List ℕ) where
               same-refusal ρ text flags (length lent) (length old) (find-fits (length lent) (length old) z (and_parts _ _ fits).0) ∙ withhold-fits (length lent) (length old) z fits
 
           shows-all : show text spans (length old) ≡ wrote (length output)
-          unfolding show writing
+          unfolding show answering
           shows-all = rw (not-refused, beside-found ρ text flags) refl
 
           -- showing beside what was found gives no refusal
@@ -159,7 +140,7 @@ module _ (ρ : Rules) (text flags : List ℕ) where
           not-err e f h = clash true refl (sym (ap isWrote (h ∙ ap (λ s. show text s (length old)) (f ∙ front-is) ∙ shows-all)))
 
           pub shown-all : {front new : List ℕ} (n : ℕ) → front ≡ take (3 * pieces) listed → wrote n ≡ show text front (length old)
-              → new ≡ written (showRefusal text front (length old)) (besides 0 front text) old → Answered (Ok (record { length = n; pieces = pieces })) listed new
+              → new ≡ written (showRefusal text front (length old)) (outside 0 (asPieces front) text) old → Answered (Ok (record { length = n; pieces = pieces })) listed new
           unfolding withhold
           shown-all n f h w =
               let is = f ∙ front-is in
@@ -168,5 +149,5 @@ module _ (ρ : Rules) (text flags : List ℕ) where
               record {
                 answer = rw r (ap (λ k. shows k pieces) e ∙ ap (shows (length output)) c);
                 list = all-written refusal spans lent r l;
-                buffer = all-written refusal output old r (w ∙ ap (λ s. written (showRefusal text s (length old)) (besides 0 s text) old) is ∙ rw (not-refused, beside-found ρ text flags) refl);
+                buffer = all-written refusal output old r (w ∙ ap (λ s. written (showRefusal text s (length old)) (outside 0 (asPieces s) text) old) is ∙ rw (not-refused, beside-found ρ text flags) refl);
               }

@@ -1,15 +1,9 @@
--- What the answers of finding and of withholding say, by the numbers and values of each case.
-use Rattle.std.specs.Prelude.{ℕ, Result, Ok, Err}
+-- What the answers of withholding say, by the numbers and values of each case.
+use Rattle.std.specs.Prelude.{Result, Ok, Err}
 use Rattle.rules.specs.Refusal.{refusalNumber}
 use Rattle.rules.specs.Withhold.{Shown, shows, refusedShown}
-use Rattle.rules.specs.Spans.{Found, finds, refusedFind}
 use Rattle.rules.specs.declared.refusal.Refusal.{Refusal}
 use Rattle.screen.specs.declared.withhold.Withheld.{Withheld}
-
--- the number of spans; or a refusal with its number
-abbrev pub foundOf : Result ℕ Refusal → Found
-foundOf (Ok n) = finds n
-foundOf (Err r) = refusedFind (refusalNumber r)
 
 -- the shown length and the number of pieces; or a refusal with its number
 abbrev pub shownOf : Result Withheld Refusal → Shown

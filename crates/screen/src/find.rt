@@ -4,7 +4,7 @@ ghost use Rattle.lexical.specs.Buffer.{Written};
 ghost use Rattle.lexical.specs.Text.{limit};
 ghost use Rattle.rules.specs.Spans.{find as findOf, findRefusal, foundSpans};
 ghost use Rattle.rules.specs.Withhold.{written};
-ghost use Rattle.screen.specs.Answer.{foundOf};
+ghost use Rattle.rules.specs.Output.{outputOf};
 ghost use Rattle.screen.specs.Found.{shownBy, spansBy, Measures, spanNumbers, Fills};
 
 use crate::withhold::Withheld;
@@ -72,7 +72,7 @@ pub(crate) fn fill(bulletin: Bulletin<'_>, list: &mut [u32]) -> usize
 
 // Fills the front of a list with the span of each piece that is withheld, in text order, in any reading, and gives their number.
 pub fn find(rules: Rules, bulletin: &[u8], flags: &[u8], list: &mut [u32]) -> Result<usize, Refusal>
-    ensures answer { foundOf result ≡ findOf rules bulletin.now flags.now (length list.old) }
+    ensures answer { outputOf result ≡ findOf rules bulletin.now flags.now (length list.old) }
     ensures list { list.new ≡ written (findRefusal rules bulletin.now flags.now (length list.old)) (foundSpans rules bulletin.now flags.now) list.old }
 {
     check_bulletin(bulletin, flags)?;

@@ -1,3 +1,3 @@
 pub mod Lists
 pub mod Showing
-pub mod Answers
+pub mod Stretches

@@ -1,9 +1,9 @@
 // Shows the bytes of a bulletin beside given spans.
 ghost use Rattle.std.specs.Prelude.{◌≡◌, ◌≤◌, true, length};
-ghost use Rattle.rules.specs.Withhold.{written};
+ghost use Rattle.rules.specs.Withhold.{outside, written};
 ghost use Rattle.rules.specs.Output.{outputOf};
 ghost use Rattle.rules.specs.Refusal.{refusalOf};
-ghost use Rattle.rules.specs.Spans.{areSpans, besides, spansRefusal, showRefusal, show as showOf};
+ghost use Rattle.rules.specs.Spans.{areSpans, asPieces, spansRefusal, showRefusal, show as showOf};
 
 use crate::list::{are_spans, first_span};
 use lexical::constant::is_over_limit;
@@ -26,7 +26,7 @@ pub(crate) fn check_spans(bulletin: &[u8], spans: &[u32]) -> Result<(), Refusal>
 // How many bytes stand beside spans that are not refused.
 fn beside_length(bulletin: &[u8], spans: &[u32]) -> usize
     requires { areSpans 0 (length bulletin.now) spans.now ≡ true }
-    ensures { result ≡ length (besides 0 spans.now bulletin.now) }
+    ensures { result ≡ length (outside 0 (asPieces spans.now) bulletin.now) }
 {
     let mut from = 0;
     let mut size = 0;
@@ -42,8 +42,8 @@ fn beside_length(bulletin: &[u8], spans: &[u32]) -> usize
 // Writes the bytes beside spans that are not refused to the front of a buffer that has room for them.
 fn write_beside(bulletin: &[u8], spans: &[u32], out: &mut [u8])
     requires are_spans { areSpans 0 (length bulletin.now) spans.now ≡ true }
-    requires room { length (besides 0 spans.now bulletin.now) ≤ length out.old }
-    ensures { out.new ≡ written 0 (besides 0 spans.now bulletin.now) out.old }
+    requires room { length (outside 0 (asPieces spans.now) bulletin.now) ≤ length out.old }
+    ensures { out.new ≡ written 0 (outside 0 (asPieces spans.now) bulletin.now) out.old }
 {
     let mut from = 0;
     let mut size = 0;
@@ -60,7 +60,7 @@ fn write_beside(bulletin: &[u8], spans: &[u32], out: &mut [u8])
 // Shows, in order, the bytes of a bulletin outside the spans given, and gives their number.
 pub fn show(bulletin: &[u8], spans: &[u32], out: &mut [u8]) -> Result<usize, Refusal>
     ensures answer { outputOf result ≡ showOf bulletin.now spans.now (length out.old) }
-    ensures buffer { out.new ≡ written (showRefusal bulletin.now spans.now (length out.old)) (besides 0 spans.now bulletin.now) out.old }
+    ensures buffer { out.new ≡ written (showRefusal bulletin.now spans.now (length out.old)) (outside 0 (asPieces spans.now) bulletin.now) out.old }
 {
     check_spans(bulletin, spans)?;
     let length = beside_length(bulletin, spans);

@@ -38,7 +38,7 @@ module _ (text : List ℕ) (i k : ℕ) (old : List ℕ) where
   pub refused-by : (r : Refusal) (c : ℕ) → inlineScan ofCrate text i k ≡ refusedInline (refusalNumber r) c → Is (Err r) old
   refused-by r c e =
       let a = refusedInline (refusalNumber r) c in
-      inline-by (refusalNumber r) a e (refused-number text i k (refusalNumber r) c e) (read-refused (inlineTrace text i a) old r)
+      inline-by (refusalNumber r) a e (refused-number text i k (refusalNumber r) c e) (read-refused _ (inlineTrace text i a) old r)
 
 -- ---- by the answer of the block scan
 module _ (text flags : List ℕ) (i : ℕ) (old : List ℕ) where
@@ -64,4 +64,4 @@ module _ (text flags : List ℕ) (i : ℕ) (old : List ℕ) where
   pub block-refused-by : (r : Refusal) → blockScan ofCrate text flags i ≡ refusedBlock (refusalNumber r) → IsBlock (Err r) old
   block-refused-by r e =
       let a = refusedBlock (refusalNumber r) in
-      block-by (refusalNumber r) a e (block-refused-number text flags i (refusalNumber r) e) (read-refused (blockTrace text i a) old r)
+      block-by (refusalNumber r) a e (block-refused-number text flags i (refusalNumber r) e) (read-refused _ (blockTrace text i a) old r)

@@ -1,7 +1,7 @@
 use Rattle.std.proofs.Common.{sym, ◌∙◌}
 use Rattle.records.specs.Answer.{bytesOf}
 use Rattle.rules.proofs.Refusals.{raised}
-use Rattle.records.proofs.Outputs.{bad-refused, ends-taken, ends-refused}
+use Rattle.records.proofs.Refusals.{bad-refused, ends-taken, ends-refused}
 use Rattle.records.proofs.kept.check_trace.Goals as goal
 
 pub returns-in_err-check_records : goal.returns-in_err-check_records

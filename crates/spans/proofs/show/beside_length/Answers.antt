@@ -1,8 +1,9 @@
-use Rattle.std.proofs.Common.{sym, ◌∙◌, ap, arith, length, rules}
-use Rattle.runs.proofs.Spans.{asPieces, besides-most}
+use Rattle.std.proofs.Common.{arith, rules}
+use Rattle.rules.specs.Spans.{asPieces}
+use Rattle.runs.proofs.Spans.{beside-most}
 use Rattle.walk.proofs.Replacing.{withholding, walking-on, size-bound, size-is}
 use Rattle.spans.proofs.Lists.{behind}
-use Rattle.spans.proofs.Showing.{takes, no-piece, whole-is, all-valid, going-start}
+use Rattle.spans.proofs.Showing.{takes, no-piece, all-valid, going-start}
 use Rattle.spans.proofs.show.beside_length.Goals as goal
 
 pub loop-span-init : goal.loop-span-init
@@ -11,8 +12,7 @@ loop-span-init c = let a = c.args in (all-valid a.bulletin.now a.spans.now c.req
 pub overflow_add-size : goal.overflow_add-size
 overflow_add-size c = let a = c.args in let s = c.in-Some.span in
     let h = size-bound (asPieces a.spans.now) (withholding a.bulletin.now) c.loop-span.invariant.1 (takes s.start s.stop s.sort c.in-Some.ensures) in
-    let w = ap length (whole-is a.bulletin.now a.spans.now) in
-    let b = besides-most a.bulletin.now a.spans.now c.requires in search (rules, h, w, b)
+    let b = beside-most a.bulletin.now a.spans.now c.requires in search (rules, h, b)
 
 pub loop-span-preserved : goal.loop-span-preserved
 loop-span-preserved c = let a = c.args in let at = c.loop-span in let s = c.in-Some.span in (
@@ -23,9 +23,8 @@ loop-span-preserved c = let a = c.args in let at = c.loop-span in let s = c.in-S
 pub overflow_add-result : goal.overflow_add-result
 overflow_add-result c = let a = c.args in let at = c.loop-span in
     let h = size-is (asPieces a.spans.now) (withholding a.bulletin.now) at.invariant.1 (no-piece c.in_default.ensures at.invariant.0) in
-    let w = ap length (whole-is a.bulletin.now a.spans.now) in
-    let b = besides-most a.bulletin.now a.spans.now c.requires in search (rules, h, w, b)
+    let b = beside-most a.bulletin.now a.spans.now c.requires in search (rules, h, b)
 
 pub returns : goal.returns
 returns c = let a = c.args in let at = c.loop-span in
-    size-is (asPieces a.spans.now) (withholding a.bulletin.now) at.invariant.1 (no-piece c.in_default.ensures at.invariant.0) ∙ sym (ap length (whole-is a.bulletin.now a.spans.now))
+    size-is (asPieces a.spans.now) (withholding a.bulletin.now) at.invariant.1 (no-piece c.in_default.ensures at.invariant.0)

@@ -1,6 +1,7 @@
 -- From span to span, by the law of the walk: the bytes before each span are counted, and then the rest.
 use Rattle.std.proofs.Common.{length}
-use Rattle.runs.proofs.Spans.{Spans, asPieces}
+use Rattle.rules.specs.Spans.{asPieces}
+use Rattle.runs.proofs.Spans.{Spans}
 use Rattle.walk.proofs.Replacing.{withholding, Walking}
 use Rattle.spans.proofs.show.beside_length.Given as goal
 

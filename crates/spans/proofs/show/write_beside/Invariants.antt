@@ -1,6 +1,7 @@
 -- From span to span, by the law of the walk: the bytes before each span are copied, and then the rest.
 use Rattle.std.proofs.Common.{length}
-use Rattle.runs.proofs.Spans.{Spans, asPieces}
+use Rattle.rules.specs.Spans.{asPieces}
+use Rattle.runs.proofs.Spans.{Spans}
 use Rattle.walk.proofs.Replacing.{withholding, Showing}
 use Rattle.spans.proofs.show.write_beside.Given as goal
 

@@ -1,5 +1,5 @@
 use Rattle.std.proofs.Common.{◌∙◌, ap, ◌+◌, rules}
-use Rattle.spans.proofs.Answers.{part-fits, part-bytes}
+use Rattle.spans.proofs.Stretches.{part-fits, part-bytes}
 use Rattle.spans.proofs.stretch.stretch.Goals as goal
 
 pub overflow_add-part : goal.overflow_add-part

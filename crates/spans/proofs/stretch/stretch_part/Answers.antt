@@ -1,6 +1,6 @@
 use Rattle.std.proofs.Common.{sym, ◌∙◌}
 use Rattle.runs.proofs.Spans.{good-spans}
-use Rattle.spans.proofs.Answers.{good-part, no-part}
+use Rattle.spans.proofs.Stretches.{good-part, no-part}
 use Rattle.spans.proofs.stretch.stretch_part.Goals as goal
 
 pub part_of-requires : goal.part_of-requires

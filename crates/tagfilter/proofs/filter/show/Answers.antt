@@ -41,5 +41,5 @@ overflow_add-result c = let b = c.args.bulletin in
 pub returns : goal.returns
 unfolding filtered
 returns c = let b = c.args.bulletin in let at = c.loop-piece in let over = c.in-None.ensures.steps.0 in
-    all-written _ c.args.out.now _ (size-is (allPieces b) (filtering b.text.now) at.invariant.walking over)
+    all-written _ _ c.args.out.now _ (size-is (allPieces b) (filtering b.text.now) at.invariant.walking over)
     (shows-all (allPieces b) (filtering b.text.now) c.args.out.now c.requires at.invariant over c.copy_part-2.ensures)

@@ -8,7 +8,7 @@ use Rattle.rules.proofs.Outputs.{not-written, is-written}
 use Rattle.trace.proofs.piece.trace_last.Goals as goal
 
 pub returns-then-out-lt-LAST_LENGTH : goal.returns-then-out-lt-LAST_LENGTH
-returns-then-out-lt-LAST_LENGTH c = let a = c.args in not-written _ _ (omega (arith, c.if-out-lt-LAST_LENGTH.true, last-bytes wide (formNumber a.form) a.index a.value))
+returns-then-out-lt-LAST_LENGTH c = let a = c.args in not-written _ _ _ (omega (arith, c.if-out-lt-LAST_LENGTH.true, last-bytes wide (formNumber a.form) a.index a.value))
 
 pub returns : goal.returns
 returns c = let a = c.args in

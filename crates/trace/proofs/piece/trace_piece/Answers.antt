@@ -9,7 +9,7 @@ use Rattle.trace.proofs.piece.trace_piece.Goals as goal
 
 pub returns-then-out-length : goal.returns-then-out-length
 returns-then-out-length c = let a = c.args in
-    not-written _ _ (omega (arith, c.if-out-length.true, c.piece_length-length.ensures a.piece.exit, piece-length a.text.now a.piece))
+    not-written _ _ _ (omega (arith, c.if-out-length.true, c.piece_length-length.ensures a.piece.exit, piece-length a.text.now a.piece))
 
 pub invariant_of-pen : goal.invariant_of-pen
 invariant_of-pen c = let a = c.args in
