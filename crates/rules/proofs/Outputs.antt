@@ -45,7 +45,8 @@ module _ (number : ℕ) (output old : List ℕ) where
   fits h w = rw (output-fits (length old) output h) w
 
 -- bytes that are written from the front of the buffer
-pub is-written : (output old : List ℕ) {new : List ℕ} (n : ℕ) → n ≡ length output → n ≤ length old → Stored old 0 output new → Writes (outputRefusal 0 (length old) output) output old (Ok n) new
+pub is-written : (output old : List ℕ) {new : List ℕ} (n : ℕ) → n ≡ length output → n ≤ length old → Stored old 0 output new
+    → Writes (outputRefusal 0 (length old) output) output old (Ok n) new
 unfolding written
 is-written output old n e h w =
     let f : length output ≤ length old = omega arith in fits (length output) output old f (all-written (length output) output old n e (w.is ∙ from-front output old f))

@@ -39,5 +39,6 @@ returns c = let a = c.args in
     let number = count a.rules a.bulletin.now a.flags.now in
     let spans = foundSpans a.rules a.bulletin.now a.flags.now in
     let room = list-fits a.rules a.bulletin.now a.flags.now _ c.has_room.ensures c.if-not-has_room.false in
-    let both = told-by _ spans a.list.now 0 c.in_ok-check_bulletin.ensures (fits _ spans a.list.now room (all-written number spans a.list.now c.fill.result c.fill.ensures.pieces-are c.fill.ensures.list)) in
+    let done = all-written number spans a.list.now _ c.fill.ensures.pieces-are c.fill.ensures.list in
+    let both = told-by _ spans a.list.now 0 c.in_ok-check_bulletin.ensures (fits _ spans a.list.now room done) in
     record { answer = both.answer; list = both.buffer }
