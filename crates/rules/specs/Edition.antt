@@ -4,7 +4,7 @@ use Rattle.lexical.specs.Text.{byte}
 use Rattle.lexical.specs.Name.{all}
 use Rattle.rules.specs.Refusal.{bulletinRefusal}
 use Rattle.rules.specs.Withhold.{Piece, pieces}
-use Rattle.rules.specs.Private.{isPrivate, any, Form, around, spans, linesText, encloses, SameRuns}
+use Rattle.rules.specs.Private.{isPrivate, Form, around, holdsBody, linesText, holdsLines, SameRuns}
 use Rattle.rules.specs.declared.Rules.{Rules}
 
 -- a passage of two bulletins: bytes that both have; a body with its opening and closer, and the body that takes its place; or whole lines, and those that do
@@ -44,8 +44,8 @@ endsInLineFeed (x ∷ y ∷ s) = endsInLineFeed (y ∷ s)
 -- front is what bulletin one has before it
 abbrev pub withholds : List Piece → List ℕ → Passage → Bool
 withholds ps front (kept s) = true
-withholds ps front (bodies form x y) = any (spans (length front) (length (front ++ around form x))) ps
-withholds ps front (wholeLines x y) = endsInLineFeed front && any (encloses (length front) (length (front ++ linesText x))) ps
+withholds ps front (bodies form x y) = holdsBody ps front form x
+withholds ps front (wholeLines x y) = endsInLineFeed front && holdsLines ps front x
 
 unfoldable pub withholdsAll : List Piece → List ℕ → List Passage → Bool
 withholdsAll ps front [] = true

@@ -56,9 +56,13 @@ pub record InlineSwap (one two : List ℕ) : Type 0 where
 abbrev pub spans : ℕ → ℕ → Piece → Bool
 spans i j p = leb p.start i && leb j p.stop
 
--- run one withholds it: a single block or inline piece holds the whole of it, opening and closer included
+-- a single block or inline piece holds the whole of a body, opening and closer included; front stands before it
+abbrev pub holdsBody : List Piece → List ℕ → Form → List ℕ → Bool
+holdsBody ps front form body = any (spans (length front) (length (front ++ around form body))) ps
+
+-- run one withholds it
 abbrev pub WithheldBody : Rules → List ℕ → {one two : List ℕ} → InlineSwap one two → Type 0
-WithheldBody ρ flags {one} d = any (spans (length d.before) (length (d.before ++ around d.form d.body₁))) (pieces ρ one flags) ≡ true
+WithheldBody ρ flags {one} d = holdsBody (pieces ρ one flags) d.before d.form d.body₁ ≡ true
 
 -- ---- block: whole lines, each ending in LF, as does the line before
 abbrev pub linesText : List (List ℕ) → List ℕ
@@ -85,9 +89,11 @@ isClosed (block k closed) = leb k 5 && closed
 abbrev pub encloses : ℕ → ℕ → Piece → Bool
 encloses i j p = isClosed p.which && (ltb p.start i && leb j p.stop)
 
+abbrev pub holdsLines : List Piece → List ℕ → List (List ℕ) → Bool
+holdsLines ps front lines = any (encloses (length front) (length (front ++ linesText lines))) ps
+
 abbrev pub WithheldLines : Rules → List ℕ → {one two : List ℕ} → LinesSwap one two → Type 0
-WithheldLines ρ flags {one} d =
-    any (encloses (length (d.before ++ (byte "\n" ∷ []))) (length ((d.before ++ (byte "\n" ∷ [])) ++ linesText d.lines₁))) (pieces ρ one flags) ≡ true
+WithheldLines ρ flags {one} d = holdsLines (pieces ρ one flags) (d.before ++ (byte "\n" ∷ [])) d.lines₁ ≡ true
 
 -- ---- privacy
 -- one private piece that run one withholds

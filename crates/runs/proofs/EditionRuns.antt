@@ -8,7 +8,7 @@ use Rattle.lexical.specs.Text.{byte}
 use Rattle.lexical.specs.Name.{all}
 use Rattle.lexical.proofs.Cases.{split, clash}
 use Rattle.rules.specs.Withhold.{Piece, pieces}
-use Rattle.rules.specs.Private.{isPrivate, any, Form, comment, instruction, declaration, cdata, closer, opening, around, spans, linesText, encloses, InlineSwap, LinesSwap, Swap, in-line, in-block, SameRuns}
+use Rattle.rules.specs.Private.{isPrivate, any, Form, comment, instruction, declaration, cdata, closer, opening, around, spans, holdsBody, linesText, encloses, holdsLines, InlineSwap, LinesSwap, WithheldLines, Swap, in-line, in-block, SameRuns}
 use Rattle.rules.specs.Edition.{Passage, kept, bodies, wholeLines, inOne, inTwo, text, keepsPrivate, endsInLineFeed, withholds, withholdsAll, Edition, EditionRuns}
 use Rattle.rules.specs.declared.Rules.{Rules}
 use Rattle.runs.proofs.Corresponding.{late, Corresponding, spans-moves, encloses-moves}
@@ -107,7 +107,7 @@ module _ (ρ : Rules) (flags : List ℕ) (ps : List Piece) (old new rest : List 
     carried : Carried ps (pieces ρ (new ++ (inTwo p ++ rest)) flags) (length (old ++ inOne p)) (length (new ++ inTwo p))
     ends : endsInLineFeed (old ++ inOne p) ≡ true → endsInLineFeed (new ++ inTwo p) ≡ true
 
-  body-step : (form : Form) (b₁ b₂ : List ℕ) → (all isPrivate b₁ && all isPrivate b₂) ≡ true → any (spans (length old) (length (old ++ around form b₁))) ps ≡ true
+  body-step : (form : Form) (b₁ b₂ : List ℕ) → (all isPrivate b₁ && all isPrivate b₂) ≡ true → holdsBody ps old form b₁ ≡ true
       → Carried ps (pieces ρ (new ++ (around form b₁ ++ rest)) flags) (length old) (length new) → Step (bodies form b₁ b₂)
   body-step form b₁ b₂ h held w =
       let private = and_parts (all isPrivate b₁) (all isPrivate b₂) h in
@@ -124,7 +124,7 @@ module _ (ρ : Rules) (flags : List ℕ) (ps : List Piece) (old new rest : List 
       }
 
   module _ (cs₁ cs₂ : List (List ℕ)) (h : (eqb (length cs₁) (length cs₂) && (all (all isPrivate) cs₁ && all (all isPrivate) cs₂)) ≡ true)
-      (new-ends : endsInLineFeed new ≡ true) (held : any (encloses (length old) (length (old ++ linesText cs₁))) ps ≡ true)
+      (new-ends : endsInLineFeed new ≡ true) (held : holdsLines ps old cs₁ ≡ true)
       (w : Carried ps (pieces ρ (new ++ (linesText cs₁ ++ rest)) flags) (length old) (length new)) where
     abbrev mid₁ : List ℕ
     mid₁ = new ++ (linesText cs₁ ++ rest)
@@ -158,7 +158,7 @@ module _ (ρ : Rules) (flags : List ℕ) (ps : List Piece) (old new rest : List 
           two-is = ap (λ (f : List ℕ). f ++ (linesText cs₂ ++ rest)) is;
         }
 
-    withheld : any (encloses (length (before ++ (byte "\n" ∷ []))) (length ((before ++ (byte "\n" ∷ [])) ++ linesText cs₁))) (pieces ρ mid₁ flags) ≡ true
+    withheld : WithheldLines ρ flags d
     withheld = rw (sym is) (moves-there encloses old new (linesText cs₁) w.enclosed held)
 
     led-length : (cs : List (List ℕ)) → length new + length (linesText cs) ≡ length before + length (ledText cs) + 1
@@ -193,7 +193,7 @@ module _ (ρ : Rules) (flags : List ℕ) (ps : List Piece) (old new rest : List 
       record { runs = runs-same; carried = carried-on (length s) (length-append old s) (length-append new s) w; ends = ends-same old new s e }
   step (bodies form b₁ b₂) h k e w = body-step form b₁ b₂ h k w
   step (wholeLines cs₁ cs₂) h k e w =
-      let held = and_parts (endsInLineFeed old) (any (encloses (length old) (length (old ++ linesText cs₁))) ps) k in
+      let held = and_parts (endsInLineFeed old) (holdsLines ps old cs₁) k in
       lines-step cs₁ cs₂ h (e held.0) held.1 w
 
 module _ (ρ : Rules) (flags : List ℕ) (ps : List Piece) where
