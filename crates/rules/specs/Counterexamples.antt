@@ -25,12 +25,13 @@ sameCount ρ r = eqb (count ρ (one r) (flags r)) (count ρ (two r) (flags r))
 pub data Excluded : Type 0 where
   excluded : ℕ → Row → Excluded
 
+-- its row
+abbrev pub rowOf : Excluded → Row
+rowOf (excluded b r) = r
+
 -- a declaration, whose closer is the last byte of every other closer
 abbrev pub declared : Form
 declared = declaration (byte "A") refl
-
-abbrev pub rowOf : Excluded → Row
-rowOf (excluded b r) = r
 
 unfoldable pub bodies : List Excluded
 bodies =

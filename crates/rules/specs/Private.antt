@@ -89,9 +89,11 @@ isClosed (block k closed) = leb k 5 && closed
 abbrev pub encloses : ℕ → ℕ → Piece → Bool
 encloses i j p = isClosed p.which && (ltb p.start i && leb j p.stop)
 
+-- such a block has the lines there; front stands before them
 abbrev pub holdsLines : List Piece → List ℕ → List (List ℕ) → Bool
 holdsLines ps front lines = any (encloses (length front) (length (front ++ linesText lines))) ps
 
+-- run one withholds them
 abbrev pub WithheldLines : Rules → List ℕ → {one two : List ℕ} → LinesSwap one two → Type 0
 WithheldLines ρ flags {one} d = holdsLines (pieces ρ one flags) (d.before ++ (byte "\n" ∷ [])) d.lines₁ ≡ true
 

@@ -351,12 +351,17 @@ edition =
 abbrev pub remarks : List ℕ → List ℕ → List Passage
 remarks s t = kept (bytes "a ") ∷ bodies comment [] s ∷ kept (bytes " b ") ∷ bodies comment [] t ∷ []
 
+both-true : (a b : Bool) → a ≡ true → b ≡ true → (a && (b && true)) ≡ true
+both-true true true h k = refl
+both-true true false h k = k
+both-true false b h k = h
+
 pub any-remarks : EditionRuns crate → (s t : List ℕ) → all isPrivate s ≡ true → all isPrivate t ≡ true → bulletinRefusal (text inTwo (remarks s t)) (0 ∷ []) ≡ 0
     → shown crate (text inTwo (remarks s t)) (0 ∷ []) ≡ bytes "a  b "
 unfolding computing
 any-remarks runs s t private-s private-t accepts =
     let e : Edition crate (0 ∷ []) (text inOne (remarks s t)) (text inTwo (remarks s t)) =
-    record { passages = remarks s t; one-is = refl; two-is = refl; private = simp (private-s, private-t); withheld = refl } in
+    record { passages = remarks s t; one-is = refl; two-is = refl; private = both-true (all isPrivate s) (all isPrivate t) private-s private-t; withheld = refl } in
     sym (runs (0 ∷ []) (text inOne (remarks s t)) (text inTwo (remarks s t)) refl accepts e).same-bytes
 
 -- a row above, with its one piece
@@ -430,11 +435,12 @@ editions =
     ∷ [])
     ∷ []
 
--- every row is an edition, of two pieces or more, in the reading of the Rust and in the standard one, and so are the rows above; neither run is refused
+-- every row is an edition, of two pieces or more, in the reading of the Rust and in the standard one, and neither run is refused
 pub editions-meet : (all (isEdition crate) editions && (all (isEdition standard) editions && all (λ ps. leb 2 (swapped ps) && areAccepted ps) editions)) ≡ true
 unfolding computing editions
 editions-meet = refl
 
+-- and so is each row of one piece
 pub swaps-are-editions : all (λ r. isEdition crate (passagesOf r) && isEdition standard (passagesOf r)) swaps ≡ true
 unfolding computing swaps
 swaps-are-editions = refl

@@ -1,6 +1,6 @@
 -- From piece to piece: the pieces passed are counted. From the first line on, the pieces that remain are all pieces; and they stand in order, each with a byte, so
 -- there are no more of them than bytes.
-use Rattle.std.proofs.Common.{◌≡◌, ap, List, [], ◌∷◌, ℕ, suc, ◌+◌, ◌≤◌, arith, length}
+use Rattle.std.proofs.Common.{◌≡◌, ap, List, [], ℕ, suc, ◌+◌, ◌≤◌, arith, length}
 use Rattle.rules.specs.Withhold.{Piece, pieces}
 use Rattle.runs.proofs.Ordered.{Ordered, fewer, pieces-ordered}
 use Rattle.walk.specs.Remaining.{fromLine, atLine, fromPlace, Takes}
