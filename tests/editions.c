@@ -545,6 +545,13 @@ static void controls(const reading *by) {
     }
 }
 
+/* Nor do these show alike: what differs ends its line in LF and is private, but LF does not end the line before, and it is no whole line. */
+static void part_of_a_line(const reading *by) {
+    screen_case row = case_of("<pre x\n</pre>", ""), other = case_of("<prey\n</pre>", "<prey\n");
+    CHECK(!show_alike(by, &row, &other));
+    CHECK(gives(by, &row, 1, OTHER_FILL) && gives(by, &other, 1, FILL));
+}
+
 /* What is put in is private, and the bytes that are not are those of docs/SCOPE.md. */
 static void bytes(void) {
     int others = 0;
@@ -568,5 +575,7 @@ int main(void) {
     all_random(&standard);
     controls(&rust);
     controls(&standard);
+    part_of_a_line(&rust);
+    part_of_a_line(&standard);
     return finish();
 }

@@ -51,9 +51,9 @@
 // flags, backslashes and the refusals 1, 2, 3 and 7; 143 of showing beside spans (`o`) and 145 of a stretch (`q`), with each condition of refusal 12 alone and with
 // others. The spans found are counted in the text; the answers of `o` and `q` are those of a model that was made for them from the words of SCOPE.
 //
-// 96 of two runs (`k`, `K`): 48 pairs of bulletins, each in either reading. 37 are editions, of two private pieces and more: bodies of each form in paragraphs, in the
+// 98 of two runs (`k`, `K`): 49 pairs of bulletins, each in either reading. 37 are editions, of two private pieces and more: bodies of each form in paragraphs, in the
 // values of a tag, in remarks and in blocks of each kind; lines in blocks of kinds 1 to 5, apart, one right behind the other, and beside bodies; bodies that become
-// empty, long, or both in one pair; backslashes, line endings and flags; three where the readings part; a bulletin twice, and the empty one twice. Five miss a premise,
+// empty, long, or both in one pair; backslashes, line endings and flags; three where the readings part; a bulletin twice, and the empty one twice. Six miss a premise,
 // one of them in the standard reading alone, and there the two answers differ. In six one run or both are refused, by 2 or 3. The answers are those of a model that was
 // made for them, of regular expressions and the flags and stops of SCOPE.
 #![tactic(auto)]
