@@ -1,7 +1,8 @@
 #!/usr/bin/env bash
 # The C interface, as a user links it: the examples in C and in Rust write what examples/expected.txt has, tests/interface.c walks the refusals and the readings,
 # tests/filter.c the tag filter, tests/long.c long bulletins, tests/conversion.c old traces across and back, tests/spans.c finding and showing, tests/editions.c
-# bulletins with other private pieces, and the Rust package in rust/ passes its tests without a warning, built by cargo and by rustc alone.
+# bulletins with other private pieces, and the Rust package in rust/ passes its tests without a warning, built by cargo and by rustc alone. The archive needs no
+# name from outside.
 #
 #     tests/interface.sh
 #
@@ -103,11 +104,25 @@ finds_archive() {
     fi
 }
 
+# needs_nothing: what the archive calls stands in it, memcpy and memmove too, so it links where there is no C library.
+needs_nothing() {
+    local names
+    if ! names=$(nm -u "$archive"); then
+        fails 'nm cannot read the archive'
+    elif grep -q ' U ' <<<"$names"; then
+        echo "$names"
+        fails 'the archive needs names from outside'
+    else
+        passed=$((passed + 1))
+    fi
+}
+
 run_example() {
     package run --example example
 }
 
 in_c() {
+    needs_nothing
     if compile_c examples/example.c "$built/example_c"; then
         prints examples/example.c "$built/example_c"
     else
