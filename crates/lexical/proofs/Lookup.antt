@@ -1,5 +1,5 @@
 -- The lookup by the first letter: only the names that begin as a name does can be it, and so its place among them is its place in the list. They are compared one
--- by one; each is what the offsets at its place cut.
+-- by one; each is what the offsets at its place cut. And a part of the offsets cuts a part of the names.
 use Rattle.std.proofs.Common.{◌≡◌, ℕ, zero, suc, ◌+◌, ◌-◌, ◌<◌, ◌≤◌, true, false, eqb, List, [], ◌∷◌, ◌++◌, map, length, get_or, take, drop, sym, refl, ap, ◌∙◌, append-nil, add-one, arith, length-append, take-append-drop, drop_of_length-le, drop-cons, length-take-le, eq-eqb, slice_range}
 use Rattle.lexical.specs.Text.{first, none}
 use Rattle.lexical.specs.Byte.{lower}
@@ -105,6 +105,28 @@ module _ (names : List (List ℕ)) (n : List ℕ) (i to : ℕ) where
   unfolding placeFrom
   no-more h = let z : to - i ≡ 0 = omega arith in rw z
 
+-- ---- a part of the offsets cuts a part of the names
+module _ (table : List ℕ) where
+  cut-drop : (k : ℕ) (offsets : List ℕ) → cut table (drop k offsets) ≡ drop k (cut table offsets)
+  unfolding cut
+  cut-drop zero offsets = refl
+  cut-drop (suc k) [] = refl
+  cut-drop (suc zero) (a ∷ []) = refl
+  cut-drop (suc (suc k)) (a ∷ []) = refl
+  cut-drop (suc k) (a ∷ b ∷ rest) = cut-drop k (b ∷ rest)
+
+  cut-take : (m : ℕ) (offsets : List ℕ) → cut table (take (suc m) offsets) ≡ take m (cut table offsets)
+  unfolding cut
+  cut-take zero [] = refl
+  cut-take zero (a ∷ rest) = refl
+  cut-take (suc m) [] = refl
+  cut-take (suc m) (a ∷ []) = refl
+  cut-take (suc m) (a ∷ b ∷ rest) = ap (λ l. take (b - a) (drop a table) ∷ l) (cut-take m (b ∷ rest))
+
+  -- the names between two places
+  pub cut-part : (k m : ℕ) (offsets : List ℕ) → cut table (take (suc m) (drop k offsets)) ≡ take m (drop k (cut table offsets))
+  cut-part k m offsets = cut-take m (drop k offsets) ∙ ap (take m) (cut-drop k offsets)
+
 -- ---- as the code has them
 -- the part between an offset and the next is the name there
 cut-at : (table offsets : List ℕ) (k : ℕ) → k + 1 < length offsets → slice_range table (get_or offsets k 0) (get_or offsets (k + 1) 0) ≡ get_or (cut table offsets) k []
@@ -156,5 +178,13 @@ module _ (table offsets starts : List ℕ) (t : LetterTable table offsets starts
     pub there : to ≤ length names
     there = exact.inside
 
-    pub place-is : placeAmong names (map lower name) from to ≡ placeFrom 0 (map lower name) names
-    place-is = sym (place-at names (lower (get_or name 0 0)) from to exact (map lower name) (begins name some))
+    pub place-among : placeAmong names (map lower name) from to ≡ placeFrom 0 (map lower name) names
+    place-among = sym (place-at names (lower (get_or name 0 0)) from to exact (map lower name) (begins name some))
+
+    -- and so it is among the names that the offsets between the places cut
+    pub place-is : placeFrom from (map lower name) (cut table (take (to + 1 - from) (drop from offsets))) ≡ placeFrom 0 (map lower name) names
+    place-is =
+        let z : to + 1 - from ≡ suc (to - from) = omega (arith, exact.forward) in
+        ap (λ k. placeFrom from (map lower name) (cut table (take k (drop from offsets)))) z
+        ∙ ap (placeFrom from (map lower name)) (cut-part table from (to - from) offsets)
+        ∙ place-among

@@ -1,8 +1,9 @@
 -- The tables of names. One computed test says of each that their bytes are lower case letters or digits, their names are in order and by letter, their
 -- offsets rise and cut just the names, and these are few enough for a place to be a byte; the laws turn it into the rule at each entry. And what a place says of
 -- the name.
-use Rattle.std.proofs.Common.{◌≡◌, ℕ, suc, ◌+◌, ◌-◌, ◌<◌, ◌≤◌, Bool, true, false, not, ◌&&◌, ◌||◌, eqb, ltb, leb, List, [], ◌∷◌, map, length, get_or, sym, refl, ap, ◌∙◌, arith, ltb-true, ne_eqb, leb-true, Some, is_some}
+use Rattle.std.proofs.Common.{◌≡◌, ℕ, suc, ◌+◌, ◌-◌, ◌<◌, ◌≤◌, Bool, true, false, not, ◌&&◌, ◌||◌, eqb, ltb, leb, List, [], ◌∷◌, map, length, get_or, take, drop, sym, refl, ap, ◌∙◌, arith, ltb-false, ltb-true, ne_eqb, leb-true, Some, is_some}
 use Rattle.std.proofs.lemmas.Bool.{and_parts}
+use Rattle.std.proofs.lemmas.List.{drop_all, drop_more}
 use Rattle.lexical.specs.Byte.{within, isDigit, lower}
 use Rattle.lexical.specs.Text.{byte}
 use Rattle.lexical.specs.Name.{blockNames, rawNames, disallowedNames, sameBytes, isMember, isBlockName, isRawName, isDisallowedName, unnamed, named, placeFrom, blockPlace, rawPlace, StandsAt, nameBytes, nameOffsets, cut, all, chain, rising, letterStarts, byLetter, LetterTable}
@@ -128,6 +129,11 @@ module _ (names : List (List ℕ)) (e : sound names ≡ true) where
   pub count-fits : length names < unnamed
   count-fits = ltb-true (length names) unnamed (and_parts (byLetter names) few behind-cuts).1
 
+  -- a table that cuts to the names, by rising offsets
+  pub cut-table : (table offsets starts : List ℕ) → rising (length table) offsets ≡ true → length offsets ≡ suc (length names) → cut table offsets ≡ names → starts ≡ letterStarts names → LetterTable table offsets starts
+  cut-table table offsets starts r o n s =
+      record { rise = r; counted = o ∙ ap (λ l. suc (length l)) (sym n); few = omega (arith, o, count-fits); order = ap byLetter n ∙ by-letter; begin = s ∙ ap letterStarts (sym n) }
+
   -- a table as the code has it
   module _ (table offsets starts : List ℕ) (t : table ≡ nameBytes names) (o : offsets ≡ nameOffsets 0 names) (s : starts ≡ letterStarts names) where
     pub names-are : cut table offsets ≡ names
@@ -137,14 +143,10 @@ module _ (names : List (List ℕ)) (e : sound names ≡ true) where
     offsets-count = ap length o ∙ offsets-length 0 names
 
     pub letter-table : LetterTable table offsets starts
-    letter-table =
-        record {
-          rise = rw (t, o) offsets-rise;
-          counted = offsets-count ∙ ap (λ l. suc (length l)) (sym names-are);
-          few = omega (arith, offsets-count, count-fits);
-          order = ap byLetter names-are ∙ by-letter;
-          begin = s ∙ ap letterStarts (sym names-are);
-        }
+    letter-table = cut-table table offsets starts (rw (t, o) offsets-rise) offsets-count names-are s
+
+    pub place-in-list : (n : List ℕ) → placeFrom 0 n (cut table offsets) ≡ placeFrom 0 n names
+    place-in-list n = ap (placeFrom 0 n) names-are
 
 -- what rising offsets say of each
 module _ (n : ℕ) (offsets : List ℕ) (e : rising n offsets ≡ true) (k : ℕ) (h : k + 1 < length offsets) where
@@ -155,6 +157,24 @@ module _ (n : ℕ) (offsets : List ℕ) (e : rising n offsets ≡ true) (k : ℕ
   pub within-table : get_or offsets (k + 1) 0 ≤ n
   unfolding rising
   within-table = leb-true _ _ (all-at 0 (λ o. leb o n) offsets (and_parts (all (λ o. leb o n) offsets) (chain ltb offsets) e).0 (k + 1) h)
+
+-- the names that a table and its offsets cut, from offset k on: the one between it and the next, and those behind
+module _ (table offsets : List ℕ) (k : ℕ) where
+  abbrev pub namesFrom : List (List ℕ)
+  namesFrom = cut table (drop k offsets)
+
+  abbrev pub part : List ℕ
+  part = take (get_or offsets (k + 1) 0 - get_or offsets k 0) (drop (get_or offsets k 0) table)
+
+  pub names-in : k + 1 < length offsets → namesFrom ≡ part ∷ cut table (drop (k + 1) offsets)
+  unfolding cut
+  names-in h = let l : k < length offsets = omega arith in rw (drop_more offsets k 0 l, drop_more offsets (k + 1) 0 h)
+
+  pub names-out : length offsets ≤ k + 1 → namesFrom ≡ []
+  unfolding cut
+  names-out h =
+      split (ltb k (length offsets)) (λ t. rw (drop_more offsets k 0 (ltb-true k (length offsets) t), drop_all (k + 1) offsets h))
+      (λ t. rw (drop_all k offsets (ltb-false k (length offsets) t)))
 
 -- ---- a place, if it is one
 pub named-place : (n : ℕ) → n < unnamed → named n ≡ Some n

@@ -1,5 +1,6 @@
--- Laws of bytes stored one behind the other in a buffer: stores behind stores, the whole buffer afterwards, and a part that is copied over.
-use Rattle.std.proofs.Common.{◌≡◌, ℕ, suc, ◌+◌, ◌-◌, ◌≤◌, List, [], ◌∷◌, ◌++◌, length, take, drop, set, sym, refl, ap, ◌∙◌, zero-add, add-one, arith, take_all, append_assoc}
+-- Laws of bytes stored one behind the other in a buffer: stores behind stores, the whole buffer afterwards, a part that is copied over, and a loop that copies.
+use Rattle.std.proofs.Common.{◌≡◌, ℕ, suc, ◌+◌, ◌-◌, ◌<◌, ◌≤◌, List, [], ◌∷◌, ◌++◌, length, get_or, take, drop, set, sym, refl, ap, ◌∙◌, zero-add, add-one, arith, take_all, append_assoc}
+use Rattle.std.proofs.lemmas.List.{drop_all, drop_more}
 use lib.Seq.{sets, length-sets, sets-eq}
 use borrow.Rule.Slice.PartMut.{put_mid, post_of, Post-is}
 use Rattle.lexical.specs.Buffer.{stored, Written}
@@ -37,6 +38,18 @@ copied l at bs part h e =
     ∙ ap (λ r. take at l ++ (bs ++ r)) (Post-is at (at + length bs) l (omega arith))
     ∙ sym (is-sets l at bs ∙ sets-eq bs l at h ∙ append_assoc (take at l) bs (drop (at + length bs) l))
 
+-- ---- a loop that copies a part, at its i-th byte
+module _ (l part : List ℕ) (at i : ℕ) where
+  pub copy-turn : i < length part → stored (set l (at + i) (get_or part i 0)) (at + (i + 1)) (drop (i + 1) part) ≡ stored l (at + i) (drop i part)
+  copy-turn h =
+      let p : at + (i + 1) ≡ at + i + 1 = omega arith in
+      rw (p, drop_more part i 0 h) (second l (at + i) (get_or part i 0) (drop (i + 1) part))
+
+  pub copy-end : length part ≤ i → stored l (at + i) (drop i part) ≡ l
+  unfolding stored
+  copy-end h = rw (drop_all i part h)
+
+-- ---- the length stays
 pub same : {l m : List ℕ} {i : ℕ} {bs : List ℕ} → Written l i bs m → length m ≡ length l
 same {l} {m} {i} {bs} w = ap length (w.is ∙ is-sets l i bs) ∙ length-sets l i bs
 

@@ -1,5 +1,5 @@
--- A table's rule: one test that is computed over the whole, and what it says of each entry.
-use Rattle.std.proofs.Common.{◌≡◌, ℕ, zero, suc, ◌+◌, ◌<◌, Bool, true, List, [], ◌∷◌, length, get_or, refl, le_of_suc-le-suc, not-suc-le-zero, add-one, arith}
+-- A table's rule: one test that is computed over the whole, and what it says of each entry, and of a part.
+use Rattle.std.proofs.Common.{◌≡◌, ℕ, zero, suc, ◌+◌, ◌<◌, Bool, true, List, [], ◌∷◌, length, get_or, take, drop, refl, le_of_suc-le-suc, not-suc-le-zero, add-one, arith}
 use Rattle.std.proofs.lemmas.Bool.{and_parts}
 use Rattle.lexical.specs.Name.{all, chain}
 
@@ -25,3 +25,37 @@ pub chain-tail : {A : Type 0} (f : A → A → Bool) (x : A) (xs : List A) → c
 unfolding chain
 chain-tail f x [] e = refl
 chain-tail f x (y ∷ ys) e = (and_parts (f x y) (chain f (y ∷ ys)) e).1
+
+-- a part of a list that passes a test passes it
+module _ {A : Type 0} where
+  all-drop : (f : A → Bool) (k : ℕ) (xs : List A) → all f xs ≡ true → all f (drop k xs) ≡ true
+  unfolding all
+  all-drop f zero xs e = e
+  all-drop f (suc k) [] e = e
+  all-drop f (suc k) (x ∷ xs) e = all-drop f k xs (and_parts (f x) (all f xs) e).1
+
+  all-take : (f : A → Bool) (m : ℕ) (xs : List A) → all f xs ≡ true → all f (take m xs) ≡ true
+  unfolding all
+  all-take f zero xs e = refl
+  all-take f (suc m) [] e = e
+  all-take f (suc m) (x ∷ xs) e = rw (and_parts (f x) (all f xs) e).0 (all-take f m xs (and_parts (f x) (all f xs) e).1)
+
+  pub all-part : (f : A → Bool) (k m : ℕ) (xs : List A) → all f xs ≡ true → all f (take m (drop k xs)) ≡ true
+  all-part f k m xs e = all-take f m (drop k xs) (all-drop f k xs e)
+
+  chain-drop : (f : A → A → Bool) (k : ℕ) (xs : List A) → chain f xs ≡ true → chain f (drop k xs) ≡ true
+  chain-drop f zero xs e = e
+  chain-drop f (suc k) [] e = e
+  chain-drop f (suc k) (x ∷ xs) e = chain-drop f k xs (chain-tail f x xs e)
+
+  chain-take : (f : A → A → Bool) (m : ℕ) (xs : List A) → chain f xs ≡ true → chain f (take m xs) ≡ true
+  unfolding chain
+  chain-take f zero xs e = refl
+  chain-take f (suc m) [] e = e
+  chain-take f (suc zero) (x ∷ xs) e = refl
+  chain-take f (suc (suc m)) (x ∷ []) e = e
+  chain-take f (suc (suc m)) (x ∷ y ∷ rest) e =
+      rw (and_parts (f x y) (chain f (y ∷ rest)) e).0 (chain-take f (suc m) (y ∷ rest) (and_parts (f x y) (chain f (y ∷ rest)) e).1)
+
+  pub chain-part : (f : A → A → Bool) (k m : ℕ) (xs : List A) → chain f xs ≡ true → chain f (take m (drop k xs)) ≡ true
+  chain-part f k m xs e = chain-take f m (drop k xs) (chain-drop f k xs e)

@@ -2,7 +2,7 @@
 ghost use Rattle.std.specs.Prelude.{◌≡◌, ◌<◌, [], map, length, drop, nat_lt, slice_index_or};
 ghost use Rattle.lexical.specs.Text.{limit};
 ghost use Rattle.lexical.specs.Byte.{lower};
-ghost use Rattle.lexical.specs.Name.{sameBytes, named, placeFrom, blockPlace, rawPlace, isDisallowedName, blockNames, rawNames, disallowedNames, cut, GoesTo, LetterTable, cdataPrefix, cdataLetters};
+ghost use Rattle.lexical.specs.Name.{sameBytes, named, placeFrom, blockPlace, rawPlace, isDisallowedName, blockNames, rawNames, disallowedNames, nameBytes, nameOffsets, cut, GoesTo, LetterTable, cdataPrefix, cdataLetters};
 
 use crate::byte::to_ascii_lowercase;
 use std::ops::Range;
@@ -116,7 +116,9 @@ impl NameTable {
 }
 
 fn block_table() -> NameTable
-    ensures { cut result.names.now result.offsets.now ≡ blockNames }
+    ensures names { cut result.names.now result.offsets.now ≡ blockNames }
+    ensures bytes { result.names.now ≡ nameBytes blockNames }
+    ensures offsets { result.offsets.now ≡ nameOffsets 0 blockNames }
 {
     NameTable {
         names: &HTML_BLOCK_NAMES,
@@ -126,7 +128,9 @@ fn block_table() -> NameTable
 }
 
 fn raw_table() -> NameTable
-    ensures { cut result.names.now result.offsets.now ≡ rawNames }
+    ensures names { cut result.names.now result.offsets.now ≡ rawNames }
+    ensures bytes { result.names.now ≡ nameBytes rawNames }
+    ensures offsets { result.offsets.now ≡ nameOffsets 0 rawNames }
 {
     NameTable {
         names: &HTML_RAW_NAMES,
@@ -136,7 +140,9 @@ fn raw_table() -> NameTable
 }
 
 fn disallowed_table() -> NameTable
-    ensures { cut result.names.now result.offsets.now ≡ disallowedNames }
+    ensures names { cut result.names.now result.offsets.now ≡ disallowedNames }
+    ensures bytes { result.names.now ≡ nameBytes disallowedNames }
+    ensures offsets { result.offsets.now ≡ nameOffsets 0 disallowedNames }
 {
     NameTable {
         names: &DISALLOWED_NAMES,

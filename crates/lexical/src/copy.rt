@@ -4,12 +4,14 @@ ghost use Rattle.lexical.specs.Buffer.{Written};
 
 use crate::slice::from_indices;
 
-// Copies all bytes of a part to a place with room for them.
+// Copies all bytes of a part to a place with room for them. It is a loop and no `copy_from_slice`, which calls memmove: the archive for C needs no name from outside.
 fn copy(part: &[u8], out: &mut [u8], at: usize)
     requires { at + length part.now ≤ length out.old }
     ensures { Written out.old at part.now out.new }
 {
-    out[at..at + part.len()].copy_from_slice(part);
+    for i in 0..part.len() {
+        out[at + i] = part[i];
+    }
 }
 
 // Copies the bytes between two indices to a place of a buffer, as far as there are any and the buffer has room.

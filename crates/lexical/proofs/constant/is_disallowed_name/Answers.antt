@@ -6,5 +6,5 @@ use Rattle.lexical.proofs.constant.is_disallowed_name.Goals as goal
 
 pub returns : goal.returns
 returns c =
-    let place = ap (λ names. placeFrom 0 (map lower c.args.name.now) names) c.disallowed_table.ensures in
+    let place = ap (λ names. placeFrom 0 (map lower c.args.name.now) names) c.disallowed_table.ensures.names in
     c.is_some.ensures ∙ ap is_some c.place.ensures ∙ is-named _ ∙ sym (disallowed-place-is _ _ place)

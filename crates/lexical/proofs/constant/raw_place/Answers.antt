@@ -5,4 +5,4 @@ use Rattle.lexical.proofs.constant.raw_place.Goals as goal
 
 pub returns : goal.returns
 unfolding rawPlace
-returns c = c.place.ensures ∙ ap (λ names. named (placeFrom 0 (map lower c.args.name.now) names)) c.raw_table.ensures
+returns c = c.place.ensures ∙ ap (λ names. named (placeFrom 0 (map lower c.args.name.now) names)) c.raw_table.ensures.names

@@ -2,7 +2,7 @@ use Rattle.std.proofs.Common.{◌≡◌, ℕ, ◌+◌, Bool, false, eqb, map, ge
 use Rattle.lexical.specs.Byte.{lower}
 use Rattle.lexical.specs.Name.{sameBytes, named, cut}
 use Rattle.lexical.proofs.Names.{named-place}
-use Rattle.lexical.proofs.Lookup.{no-name, up, there, few, place-is, placeAmong, hit, miss, no-more}
+use Rattle.lexical.proofs.Lookup.{no-name, up, there, few, place-among, placeAmong, hit, miss, no-more}
 use Rattle.lexical.proofs.constant.NameTable.place.Goals as goal
 
 -- no name is the empty one
@@ -20,7 +20,7 @@ loop-place-init c = let a = c.args in
     let name = some _ _ c.is_empty.ensures c.if-is_empty.false in (
       omega (arith, up _ _ _ a.self.now.by_letter a.name.now _ _ goes name, ap (λ r. r.start) same, ap (λ r. r.end) same),
       omega (arith, there _ _ _ a.self.now.by_letter a.name.now _ _ goes name, ap (λ r. r.end) same),
-      ap (λ r. placeAmong names (map lower a.name.now) r.start r.end) same ∙ place-is _ _ _ a.self.now.by_letter a.name.now _ _ goes name,
+      ap (λ r. placeAmong names (map lower a.name.now) r.start r.end) same ∙ place-among _ _ _ a.self.now.by_letter a.name.now _ _ goes name,
     )
 
 pub returns-then-same_lower : goal.returns-then-same_lower
