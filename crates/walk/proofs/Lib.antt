@@ -9,3 +9,4 @@ pub mod InlineSteps
 pub mod Places
 pub mod Walk
 pub mod Replacing
+pub mod Outputs

@@ -13,7 +13,7 @@ use Rattle.walk.specs.declared.pieces.Piece.{Piece as Taken}
 abbrev pub between : List ℕ → ℕ → ℕ → List ℕ
 between text i j = take (j - i) (drop i text)
 
-between-length : (text : List ℕ) (i j : ℕ) → i ≤ j → j ≤ length text → length (between text i j) ≡ j - i
+pub between-length : (text : List ℕ) (i j : ℕ) → i ≤ j → j ≤ length text → length (between text i j) ≡ j - i
 between-length text i j a b = length-take-le (j - i) (drop i text) (omega (arith, length-drop i text))
 
 -- a piece as the code tells it

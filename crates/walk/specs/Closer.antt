@@ -1,5 +1,5 @@
--- What is known of the closers ahead in a paragraph, in the order of the code. It need not be believed: no public contract cites it, and the iterator over the
--- pieces keeps what it asks of a place.
+-- What is known of the closers ahead in a paragraph, in the order of the code. It need not be believed: of public contracts only those of `at_line` and
+-- `next_piece` rest on it, the one in the place that it makes, the other in what it asks of a place, which the iterator over the pieces keeps.
 use Rattle.std.specs.Prelude.{◌≡◌, Bool, true, false, ◌&&◌, List, [], ℕ, drop}
 use Rattle.lexical.specs.Text.{bytes, first}
 use Rattle.lexical.specs.Byte.{isLetter}

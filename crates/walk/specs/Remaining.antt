@@ -1,5 +1,6 @@
--- The pieces that remain from a place of a bulletin on, in the order of the code. It need not be believed: no public contract cites it but through the pieces that
--- are left of the iterator (specs/Yields.antt), and of a new one these are the pieces of the rules.
+-- The pieces that remain from a place of a bulletin on, in the order of the code. It need not be believed: of public contracts only those of `at_line` and
+-- `next_piece` cite it, and those of the iterator through the pieces that are left (specs/Yields.antt); from the first line on they are the pieces of the rules
+-- (`from-start` in proofs/Walk.antt).
 use Rattle.std.specs.Prelude.{◌≡◌, Bool, true, false, ◌&&◌, ◌||◌, not, List, [], ◌∷◌, ◌++◌, ℕ, suc, ◌+◌, ◌<◌, ◌≤◌, eqb, length, get_or, take, drop, Option, Some, None, Result, Ok, Err}
 use Rattle.lexical.specs.Text.{byte, pick}
 use Rattle.lexical.specs.Line.{isInner, lineLength, isBlank}

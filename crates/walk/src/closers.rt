@@ -39,6 +39,10 @@ impl Form {
         if text.starts_with(b"<?") {
             return Form::Instruction;
         }
+        // Most openings are of no form, and are known by two bytes.
+        if !text.starts_with(b"<!") {
+            return Form::Other;
+        }
         if text.starts_with(b"<!--") {
             return Form::Comment;
         }

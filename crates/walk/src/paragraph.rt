@@ -99,13 +99,20 @@ fn attempt(rules: Rules, text: &[u8], index: usize, closers: Closers) -> Result<
     ensures { Known closers (drop index text.now) → Attempt rules text.now index result }
 {
     let opening = &text[index..];
-    // While every closer may lie ahead, the form does not matter.
-    if closers != Closers::all() && !closers.is_ahead(Form::of(opening)) {
+    // While every closer may lie ahead, the form matters only where none is found.
+    if closers == Closers::all() {
+        return match inline_at(rules, text, index).stop {
+            Some(stop) => Ok(stop),
+            None => Err(closers.without(Form::of(opening))),
+        };
+    }
+    let form = Form::of(opening);
+    if !closers.is_ahead(form) {
         return Err(closers);
     }
     match inline_at(rules, text, index).stop {
         Some(stop) => Ok(stop),
-        None => Err(closers.without(Form::of(opening))),
+        None => Err(closers.without(form)),
     }
 }
 
