@@ -78,7 +78,7 @@ fn run(rules: Rules, text: &[u8], from: usize, start: StateName, carry: u8) -> I
         status: Status::Going,
     };
     for index in from..text.len() {
-        scanner.step(rules, text[index]);
+        scanner = scanner.stepped(rules, text[index]);
         let carry = scanner.size;
         match scanner.status {
             Status::Going => {}

@@ -1,6 +1,7 @@
 -- Laws of a number in two or in four bytes, low first: what its bytes add up to, and which bytes it has.
-use Rattle.std.proofs.Common.{◌≡◌, refl, List, [], ◌∷◌, ℕ, suc, ◌+◌, ◌*◌, ◌/◌, ◌%◌, arith, add-zero, get_or, drop, drop-drop, get_or-drop}
+use Rattle.std.proofs.Common.{◌≡◌, refl, List, [], ◌∷◌, ℕ, zero, suc, ◌+◌, ◌*◌, ◌/◌, ◌%◌, ◌^◌, ◌<◌, ◌≤◌, arith, add-zero, get_or, drop, drop-drop, get_or-drop}
 use Rattle.rules.specs.Trace.{field, number}
+use Rattle.records.proofs.Fields.{are-bytes, bytes-drop, number-below}
 
 module _ (s : List ℕ) where
   -- the number of w + 1 bytes from j on
@@ -18,6 +19,17 @@ module _ (s : List ℕ) where
       let two : j + 1 + 1 ≡ j + 2 = omega arith in
       let three : j + 2 + 1 ≡ j + 3 = omega arith in
       rw (number-in 3 j, number-in 2 (j + 1), two, number-in 1 (j + 2), three, number-in 0 (j + 3)) (omega arith)
+
+-- three bytes of bytes
+pub three-bytes : (s : List ℕ) (w j : ℕ) → ((i : ℕ) → get_or s i 0 < 256) → w ≤ 3 → number w (drop j s) < 16777216
+three-bytes s w j b h = most w h (number-below w (drop j s) (bytes-drop j s (are-bytes s b)))
+  where
+    most : (w : ℕ) {n : ℕ} → w ≤ 3 → n < 256 ^ w → n < 16777216
+    most zero h l = omega arith
+    most (suc zero) h l = omega arith
+    most (suc (suc zero)) h l = omega arith
+    most (suc (suc (suc zero))) h l = omega arith
+    most (suc (suc (suc (suc w)))) h l = absurd (omega arith)
 
 -- the lowest bytes of a number
 pub two-lowest : (n : ℕ) → n % 256 ∷ n / 256 % 256 ∷ [] ≡ field 2 n

@@ -103,6 +103,16 @@ module _ (w : ℕ) where
     unfolding recordAt
     record-none h = rw (ne_eqb (recordRefusal w s) 0 h)
 
+    abbrev pub content : Record
+    content =
+        choose (leb (first s) 12)
+        (λ _. eventRecord (first s) (number w (drop 1 s)) (number w (drop (1 + w) s)) (number w (drop (1 + 2 * w) s)) (get_or s (1 + 3 * w) 0))
+        (λ _. lastRecord (first s) (number w (drop 1 s)) (get_or s (1 + w) 0))
+
+    pub record-whole : recordRefusal w s ≡ 0 → recordAt w s ≡ content
+    unfolding recordAt
+    record-whole e = rw e
+
     abbrev pub eventAt : Record
     eventAt = eventRecord (get_or s 0 0) (number w (drop 1 s)) (number w (drop (1 + w) s)) (number w (drop (1 + 2 * w) s)) (get_or s (1 + 3 * w) 0)
 
@@ -111,12 +121,10 @@ module _ (w : ℕ) where
 
     module _ (e : recordRefusal w s ≡ 0) where
       pub event-at : get_or s 0 0 ≤ 12 → recordAt w s ≡ eventAt
-      unfolding recordAt
-      event-at h = rw (e, head s (whole e).starts, le-leb (get_or s 0 0) 12 h)
+      event-at h = record-whole e ∙ rw (head s (whole e).starts, le-leb (get_or s 0 0) 12 h)
 
       pub last-at : 12 < get_or s 0 0 → recordAt w s ≡ lastAt
-      unfolding recordAt
-      last-at h = rw (e, head s (whole e).starts, lt-leb (get_or s 0 0) 12 h)
+      last-at h = record-whole e ∙ rw (head s (whole e).starts, lt-leb (get_or s 0 0) 12 h)
 
       pub event-fits : get_or s 0 0 ≤ 12 → 2 + 3 * w ≤ length s
       event-fits h = omega (arith, (whole e).fits, event-size (get_or s 0 0) h)

@@ -152,13 +152,14 @@ module _ (w : ℕ) where
         ∙ read-next (left - 1) (whole w s e).starts
         ∙ either w s e (λ r. unlessRefused r rest ≡ rest) (λ k. refl) (λ k. refl)
 
-    pub read-stop : (left : ℕ) (r : Refusal) → refusalNumber r ≡ recordRefusal w s → refusedRecord (refusalNumber r) ≡ readTrace w left s
+    -- a flaw is told however many are to go
+    pub read-refused : (left : ℕ) → (recordRefusal w s ≡ 0 → ⊥) → readTrace w left s ≡ refusedRecord (recordRefusal w s)
     unfolding readTrace
-    read-stop left r e = rw e (sym (at-once left (record-none w s (λ z. refusal-positive r (e ∙ z)))))
-      where
-        at-once : (left : ℕ) → recordAt w s ≡ refusedRecord (recordRefusal w s) → readTrace w left s ≡ refusedRecord (recordRefusal w s)
-        at-once zero f = f
-        at-once (suc left) f = rw f
+    read-refused zero f = record-none w s f
+    read-refused (suc left) f = rw (record-none w s f)
+
+    pub read-stop : (left : ℕ) (r : Refusal) → refusalNumber r ≡ recordRefusal w s → refusedRecord (refusalNumber r) ≡ readTrace w left s
+    read-stop left r e = rw e (sym (read-refused left (λ z. refusal-positive r (e ∙ z))))
 
     pub read-here : (left : ℕ) → left ≡ 0 → readTrace w left s ≡ recordAt w s
     unfolding readTrace
