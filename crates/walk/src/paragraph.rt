@@ -98,15 +98,7 @@ fn attempt(rules: Rules, text: &[u8], index: usize, closers: Closers) -> Result<
     requires { index < length text.now }
     ensures { Known closers (drop index text.now) → Attempt rules text.now index result }
 {
-    let opening = &text[index..];
-    // While every closer may lie ahead, the form matters only where none is found.
-    if closers == Closers::all() {
-        return match inline_at(rules, text, index).stop {
-            Some(stop) => Ok(stop),
-            None => Err(closers.without(Form::of(opening))),
-        };
-    }
-    let form = Form::of(opening);
+    let form = Form::of(&text[index..]);
     if !closers.is_ahead(form) {
         return Err(closers);
     }

@@ -6,26 +6,16 @@ use Rattle.walk.proofs.Forms.{rest-is}
 use Rattle.walk.proofs.InlineSteps.{not-read, took, lacked}
 use Rattle.walk.proofs.paragraph.attempt.Goals as goal
 
+pub returns-then-not-is_ahead : goal.returns-then-not-is_ahead
+returns-then-not-is_ahead c known = let a = c.args in let form = c.of-form.ensures ∙ ap formOf (rest-is a.text.now a.index) in
+    not-read a.rules a.text.now a.index c.requires a.closers known (ap (isAhead a.closers) (sym form) ∙ sym c.is_ahead.ensures ∙ c.if-not-is_ahead.true)
+
 pub returns-in-Some : goal.returns-in-Some
 returns-in-Some c known = let a = c.args in let r = c.inline_at.result in
     took a.rules a.text.now a.index c.requires _ _ (sym (ap (λ t. stopping t r.carry) c.in-Some.is) ∙ c.inline_at.ensures)
 
 pub returns-in-None : goal.returns-in-None
 returns-in-None c known = let a = c.args in let r = c.inline_at.result in
-    let form = c.of.ensures ∙ ap formOf (rest-is a.text.now a.index) in
+    let form = c.of-form.ensures ∙ ap formOf (rest-is a.text.now a.index) in
     subst (Lacked a.rules a.text.now a.index) (sym (c.without.ensures ∙ ap (without a.closers) form))
     (lacked a.rules a.text.now a.index c.requires a.closers _ (sym (ap (λ t. stopping t r.carry) c.in-None.is) ∙ c.inline_at.ensures) known)
-
-pub returns-then-not-is_ahead : goal.returns-then-not-is_ahead
-returns-then-not-is_ahead c known = let a = c.args in let form = c.of-form.ensures ∙ ap formOf (rest-is a.text.now a.index) in
-    not-read a.rules a.text.now a.index c.requires a.closers known (ap (isAhead a.closers) (sym form) ∙ sym c.is_ahead.ensures ∙ c.if-not-is_ahead.true)
-
-pub returns-in-Some-stop : goal.returns-in-Some-stop
-returns-in-Some-stop c known = let a = c.args in let r = c.inline_at-2.result in
-    took a.rules a.text.now a.index c.requires _ _ (sym (ap (λ t. stopping t r.carry) c.in-Some-stop.is) ∙ c.inline_at-2.ensures)
-
-pub returns-in-None-stop : goal.returns-in-None-stop
-returns-in-None-stop c known = let a = c.args in let r = c.inline_at-2.result in
-    let form = c.of-form.ensures ∙ ap formOf (rest-is a.text.now a.index) in
-    subst (Lacked a.rules a.text.now a.index) (sym (c.without-in-None-stop.ensures ∙ ap (without a.closers) form))
-    (lacked a.rules a.text.now a.index c.requires a.closers _ (sym (ap (λ t. stopping t r.carry) c.in-None-stop.is) ∙ c.inline_at-2.ensures) known)
