@@ -69,6 +69,28 @@ impl Closers {
         }
     }
 
+    // The form of an opening, as far as it tells whether its closer may lie ahead: while every closer may, it is not looked at.
+    pub(crate) fn asked(self, text: &[u8]) -> Form
+        ensures ahead { isAhead self result ≡ isAhead self (formOf text.now) }
+        ensures form { (self ≡ allAhead → ⊥) → result ≡ formOf text.now }
+    {
+        if self == Closers::all() {
+            return Form::Other;
+        }
+        Form::of(text)
+    }
+
+    // What is left where an opening found no closer. The form that was asked for is used again.
+    pub(crate) fn missed(self, asked: Form, text: &[u8]) -> Closers
+        requires { (self ≡ allAhead → ⊥) → asked ≡ formOf text.now }
+        ensures { result ≡ withoutOf self (formOf text.now) }
+    {
+        if self == Closers::all() {
+            return self.without(Form::of(text));
+        }
+        self.without(asked)
+    }
+
     // Whether a closer of the form may lie ahead.
     pub(crate) fn is_ahead(self, form: Form) -> bool
         ensures { result ≡ isAhead self form }

@@ -98,13 +98,14 @@ fn attempt(rules: Rules, text: &[u8], index: usize, closers: Closers) -> Result<
     requires { index < length text.now }
     ensures { Known closers (drop index text.now) → Attempt rules text.now index result }
 {
-    let form = Form::of(&text[index..]);
+    let opening = &text[index..];
+    let form = closers.asked(opening);
     if !closers.is_ahead(form) {
         return Err(closers);
     }
     match inline_at(rules, text, index).stop {
         Some(stop) => Ok(stop),
-        None => Err(closers.without(form)),
+        None => Err(closers.missed(form, opening)),
     }
 }
 

@@ -7,8 +7,9 @@ use Rattle.walk.proofs.InlineSteps.{not-read, took, lacked}
 use Rattle.walk.proofs.paragraph.attempt.Goals as goal
 
 pub returns-then-not-is_ahead : goal.returns-then-not-is_ahead
-returns-then-not-is_ahead c known = let a = c.args in let form = c.of-form.ensures ∙ ap formOf (rest-is a.text.now a.index) in
-    not-read a.rules a.text.now a.index c.requires a.closers known (ap (isAhead a.closers) (sym form) ∙ sym c.is_ahead.ensures ∙ c.if-not-is_ahead.true)
+returns-then-not-is_ahead c known = let a = c.args in
+    not-read a.rules a.text.now a.index c.requires a.closers known
+    (ap (isAhead a.closers) (sym (ap formOf (rest-is a.text.now a.index))) ∙ sym c.asked-form.ensures.ahead ∙ sym c.is_ahead.ensures ∙ c.if-not-is_ahead.true)
 
 pub returns-in-Some : goal.returns-in-Some
 returns-in-Some c known = let a = c.args in let r = c.inline_at.result in
@@ -16,6 +17,5 @@ returns-in-Some c known = let a = c.args in let r = c.inline_at.result in
 
 pub returns-in-None : goal.returns-in-None
 returns-in-None c known = let a = c.args in let r = c.inline_at.result in
-    let form = c.of-form.ensures ∙ ap formOf (rest-is a.text.now a.index) in
-    subst (Lacked a.rules a.text.now a.index) (sym (c.without.ensures ∙ ap (without a.closers) form))
+    subst (Lacked a.rules a.text.now a.index) (sym (c.missed.ensures ∙ ap (without a.closers) (ap formOf (rest-is a.text.now a.index))))
     (lacked a.rules a.text.now a.index c.requires a.closers _ (sym (ap (λ t. stopping t r.carry) c.in-None.is) ∙ c.inline_at.ensures) known)
