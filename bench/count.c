@@ -121,6 +121,7 @@ static const struct input {
     {"raw", "", "<pre>x</pre>\n", "", 0, withholds},
     {"marks", "", "<?", "", 0, withholds},
     {"xmp", "", "<xmp>", "", 0, withholds},
+    {"unclosed", "a <!-- <? <!x <![CDATA[ ", "<", "", 0, withholds},
     {"long", "<div>\n", "the stairs are shut until noon\n", "</div>", 0, finds_block},
     {"remark", "<!--", "the stairs are shut until noon\n", "-->", 0, scans},
     {"endings", "<?", "\n", "", 0, finds_block},

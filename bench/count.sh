@@ -1,5 +1,5 @@
 #!/usr/bin/env bash
-# Counts instructions, which are the same however busy the machine is: sixteen inputs of 16,000 bytes that are scanned or withheld, four that are filtered, four that
+# Counts instructions, which are the same however busy the machine is: seventeen inputs of 16,000 bytes that are scanned or withheld, four that are filtered, four that
 # are withheld by the standard, four whose spans are found, the same four shown beside these, and four whose traces are written, each 200 times.
 #
 #     bench/count.sh [ARCHIVE..]
@@ -17,7 +17,7 @@ mkdir -p "$built" || exit 1
 for i in "${!archives[@]}"; do
     build "$built/count$i" "${archives[i]}" || exit 1
 done
-inputs=(comment value attributes prose tags blocks late lines table row raw marks xmp long remark endings filter:prose filter:table filter:tags filter:xmp
+inputs=(comment value attributes prose tags blocks late lines table row raw marks xmp unclosed long remark endings filter:prose filter:table filter:tags filter:xmp
     standard:prose standard:tags standard:blocks standard:table find:prose find:tags find:blocks find:table show:prose show:tags show:blocks show:table
     trace:value trace:remark trace:long trace:endings)
 for input in "${inputs[@]}"; do
