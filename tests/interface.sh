@@ -104,7 +104,7 @@ finds_archive() {
     fi
 }
 
-# needs_nothing: what the archive calls stands in it, memcpy and memmove too, so it links where there is no C library.
+# needs_nothing: the archive calls nothing from outside, not even memcpy or memmove, so it links where there is no C library.
 needs_nothing() {
     local names
     if ! names=$(nm -u "$archive"); then

@@ -80,7 +80,7 @@ impl Closers {
         Form::of(text)
     }
 
-    // What is left where an opening found no closer. The form that was asked for is used again.
+    // What is left where an opening found no closer. The form that was asked for is used again; while every closer may lie ahead none was, and it is looked at here.
     pub(crate) fn missed(self, asked: Form, text: &[u8]) -> Closers
         requires { (self ≡ allAhead → ⊥) → asked ≡ formOf text.now }
         ensures { result ≡ withoutOf self (formOf text.now) }
